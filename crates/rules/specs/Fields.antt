@@ -1,0 +1,24 @@
+-- Fields of bits, "packed most significant bit first": in history places, and in images. A bit is the number 0 or 1. Assumes nothing.
+use Prim.Native.Nat.{ℕ, zero, suc, _+_, _*_, _/_, _%_, _^_}
+use mathlib.Core.List.{List, [], _∷_, _++_}
+use lib.ListN.{length, take, drop}
+
+-- the w low bits of v
+unfoldable pub field : ℕ → ℕ → List ℕ
+field zero v = []
+field (suc w) v = v / 2 ^ w % 2 ∷ field w v
+
+-- the number that bits stand for
+unfoldable pub value : List ℕ → ℕ
+value [] = 0
+value (b ∷ bs) = b * 2 ^ length bs + value bs
+
+-- the bits of bytes
+unfoldable pub bitsOf : List ℕ → List ℕ
+bitsOf [] = []
+bitsOf (b ∷ bs) = field 8 b ++ bitsOf bs
+
+-- the first n bytes of bits
+unfoldable pub bytesOf : ℕ → List ℕ → List ℕ
+bytesOf zero l = []
+bytesOf (suc n) l = value (take 8 l) ∷ bytesOf n (drop 8 l)

@@ -1,0 +1,57 @@
+-- Document 01, "Text, table, image": number operands as text. Assumes nothing.
+use Prim.Native.Nat.{ℕ, _+_, _*_, _-_, _^_, _%_}
+use mathlib.Core.Bool.{Bool, true, false, cond, _&&_}
+use mathlib.Core.List.{List, [], _∷_}
+use lib.Dec.{eqb, leb, ltb}
+use lib.ListN.{length, drop}
+use Rattle.rules.specs.Bytes.{hash, minusSign}
+use Rattle.rules.specs.declared.Numeral.{Numeral}
+use Rattle.rules.specs.declared.Numeral.the-variants.{Value, WrongForm, OutOfRange}
+
+-- what a byte counts for as a digit, "of either case": 0 to 9, A to F and a to f; 16 where it is none
+unfoldable pub digitOf : ℕ → ℕ
+digitOf b =
+    cond (leb 48 b && leb b 57) (b - 48) (cond (leb 65 b && leb b 70) (b - 55) (cond (leb 97 b && leb b 102) (b - 87) 16))
+
+-- each byte is a digit in the base
+unfoldable pub allDigits : ℕ → List ℕ → Bool
+allDigits base [] = true
+allDigits base (b ∷ s) = ltb (digitOf b) base && allDigits base s
+
+-- the number that digits make after those that made n
+unfoldable pub numeral : ℕ → ℕ → List ℕ → ℕ
+numeral base n [] = n
+numeral base n (b ∷ s) = numeral base (n * base + digitOf b) s
+
+-- one or more digits in the base
+unfoldable pub isNumeral : ℕ → List ℕ → Bool
+isNumeral base [] = false
+isNumeral base (b ∷ s) = allDigits base (b ∷ s)
+
+-- how many minus signs stand in front: 1 or none
+unfoldable pub signs : List ℕ → ℕ
+signs [] = 0
+signs (b ∷ s) = cond (eqb b minusSign) 1 0
+
+-- the two's complement of −n
+unfoldable pub negated : ℕ → ℕ
+negated n = (2 ^ 32 - n) % 2 ^ 32
+
+-- the number n with a minus or without: from −least to most
+unfoldable pub ranged : ℕ → ℕ → Bool → ℕ → Numeral
+ranged least most true n = cond (leb n least) (Value (negated n)) OutOfRange
+ranged least most false n = cond (leb n most) (Value n) OutOfRange
+
+-- "Numbers: optional `-`, digits; more than 10 digits is 25."
+unfoldable pub numberOf : ℕ → ℕ → List ℕ → Numeral
+numberOf least most t =
+    let ds = drop (signs t) t in
+    let n = ranged least most (eqb (signs t) 1) (numeral 10 0 ds) in
+    cond (isNumeral 10 ds) (cond (leb (length ds) 10) n OutOfRange) WrongForm
+
+-- "`#` and eight hex digits of either case"
+unfoldable pub patternOf : List ℕ → Numeral
+patternOf [] = WrongForm
+patternOf (b ∷ ds) =
+    let n = Value (numeral 16 0 ds) in
+    cond (eqb (length ds) 8 && eqb b hash && allDigits 16 ds) n WrongForm
