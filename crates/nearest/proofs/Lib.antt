@@ -1,0 +1,9 @@
+pub mod Order
+pub mod Closest
+pub mod Grid
+pub mod Cell
+pub mod Parts
+pub mod Overflow
+pub mod Parity
+pub mod Rounded
+pub mod Unique
