@@ -7,3 +7,7 @@ pub mod Overflow
 pub mod Parity
 pub mod Rounded
 pub mod Unique
+pub mod Sum
+pub mod Exact
+pub mod Cells
+pub mod Checks

@@ -8,7 +8,7 @@ use Prim.Native.Nat.{ℕ, suc, _+_, _-_, _*_, _/_, _%_, _^_, _≤_, _<_}
 use native.Mathlib.Nat.{eq-or-lt-of-le, lt-suc-self, mul-lt-mul-of-pos-right}
 use native.Mathlib.Omega.{arith}
 use lib.Ieee.{binary32, round, toBits}
-use Rattle.nearest.specs.Nearest.{negative, exponent, Finite, scale, magnitude, apart, AsNear, midpoint, IsNearest}
+use Rattle.nearest.specs.Nearest.{negative, exponent, Finite, scale, magnitude, apart, AsNear, midpoint, IsNearest, Rounded}
 use Rattle.nearest.proofs.Order.{either-way}
 use Rattle.nearest.proofs.Parts.{magnitude-rises, between-finite, between-sign}
 use Rattle.nearest.proofs.Rounded.{nearest-value}
@@ -52,3 +52,7 @@ one-nearest s a c C x y m n = go (either-way (midpoint * c) a)
 
 pub only-nearest : (s : Bool) (a c : ℕ) → 0 < c → (x : ℕ) → IsNearest s a c x → x ≡ toBits binary32 (round binary32 s a c)
 only-nearest s a c C x m = one-nearest s a c C x (toBits binary32 (round binary32 s a c)) m (nearest-value s a c C)
+
+-- what every use of `round` cites
+pub round-rounded : (s : Bool) (a c : ℕ) → 0 < c → Rounded s a c (toBits binary32 (round binary32 s a c))
+round-rounded s a c C = record { nearest = nearest-value s a c C; only = only-nearest s a c C }

@@ -39,11 +39,11 @@ unfolding scaled
 magnitude b = scaled (exponent b) (fraction b)
 
 -- the same with its sign: the whole number that stands over scale
-abbrev pub signed : Bool → ℕ → ℤ
-signed s m = cond s (negℤ (pos m)) (pos m)
+abbrev pub withSign : Bool → ℕ → ℤ
+withSign s m = cond s (negℤ (pos m)) (pos m)
 
 abbrev pub exact : ℕ → ℤ
-exact b = signed (negative b) (magnitude b)
+exact b = withSign (negative b) (magnitude b)
 
 -- the sign of an exact value; of an exact zero it is the one that IEEE 754 gives, z
 abbrev pub signOr : Bool → ℤ → Bool
@@ -80,3 +80,8 @@ pub record IsNearest (s : Bool) (a c x : ℕ) : Type 0 where
   pub near : a < midpoint * c → (y : ℕ) → Finite y → AsNear a c x y
   -- "ties to even": where another is as near, the last bit of x is 0
   pub even : a < midpoint * c → (y : ℕ) → Finite y → magnitude y ≢ magnitude x → AsNear a c y x → x % 2 ≡ 0
+
+-- "rounded once": x is what the exact value a / c with the sign s rounds to, and no other bits are
+pub record Rounded (s : Bool) (a c x : ℕ) : Type 0 where
+  pub nearest : IsNearest s a c x
+  pub only : (y : ℕ) → IsNearest s a c y → y ≡ x

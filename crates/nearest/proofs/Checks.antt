@@ -1,0 +1,24 @@
+-- The definitions at bits that everyone knows, computed: the smallest value, 1, -2.5, the largest, and what the midpoint is halfway between. Assumes nothing.
+use mathlib.Core.Path.{_≡_, refl}
+use Prim.Native.Nat.{ℕ, _+_, _-_, _*_, _^_}
+use lib.IntN.{pos, negℤ, _*ℤ_}
+use Rattle.nearest.specs.Nearest.{scale, magnitude, exact, midpoint}
+
+smallest : magnitude 0x0000_0001 ≡ 1
+unfolding magnitude
+smallest = refl
+
+one : magnitude 0x3f80_0000 ≡ 1 * scale
+unfolding magnitude
+one = refl
+
+minus-two-and-a-half : exact 0xc020_0000 *ℤ pos 2 ≡ negℤ (pos (5 * scale))
+unfolding magnitude
+minus-two-and-a-half = refl
+
+largest : magnitude 0x7f7f_ffff ≡ (2 ^ 24 - 1) * 2 ^ 104 * scale
+unfolding magnitude
+largest = refl
+
+halfway : midpoint + midpoint ≡ (2 ^ 24 - 1) * 2 ^ 104 + 2 ^ 128
+halfway = refl
