@@ -1,18 +1,22 @@
 -- Document 01, "Instructions": "F operations take FLOATs; each is rounded once, to binary32 (IEEE 754, nearest, ties to even)." From the bits b and t of
 -- two cells, each finite, to the bits that the operation leaves: they are those of the binary32 value nearest to the exact result, and no other bits are.
 -- An exact value is a whole number over a whole number above 0: exact b / scale with its sign, magnitude b / scale without. Assumes nothing.
-use mathlib.Core.Path.{_≡_, sym, ap, _∙_, subst}
+use mathlib.Core.Path.{_≡_, sym, ap, ap₂, _∙_, subst}
 use mathlib.Core.Bool.{Bool, not, _&&_, xor}
 use Prim.Native.Nat.{ℕ, _*_, _<_}
 use native.Mathlib.Nat.{mul-pos}
 use lib.IntN.{natAbs, _+ℤ_, _-ℤ_}
 use lib.Pow.{pow-pos}
+use lib.Signed.{ltZ}
 use lib.Ieee.{Float, binary32, round, ofBits, toBits}
-use Rattle.rules.specs.Floats.{rounded, plusF, minusF, timesF, quotientF}
-use Rattle.nearest.specs.Nearest.{negative, Finite, scale, magnitude, exact, signOr, Rounded}
+use Rattle.rules.specs.Floats.{rounded, plusF, minusF, timesF, quotientF, orderedF}
+use Rattle.rules.specs.Words.{sense}
+use Rattle.nearest.specs.Nearest.{negative, Finite, scale, magnitude, exact, signOr, infinity, Rounded}
 use Rattle.nearest.proofs.Cell.{value-read}
+use Rattle.nearest.proofs.Rounded.{infinity-bits}
 use Rattle.nearest.proofs.Unique.{round-rounded}
-use Rattle.nearest.proofs.Exact.{add-exact, sub-exact, mul-exact, div-exact}
+use Rattle.nearest.proofs.Exact.{add-exact, sub-exact, mul-exact, div-exact, div-zero, zero-div-zero}
+use Rattle.nearest.proofs.Compare.{lt-exact}
 
 by-round : (x : Float) (s : Bool) (a c : ℕ) → 0 < c → x ≡ round binary32 s a c → Rounded s a c (toBits binary32 x)
 by-round x s a c C e = subst (λ (y : Float). Rounded s a c (toBits binary32 y)) (sym e) (round-rounded s a c C)
@@ -49,3 +53,27 @@ module _ (b t : ℕ) (fb : Finite b) (ft : Finite t) where
       by-round _ (xor (negative b) (negative t)) (magnitude b) (magnitude t) h
       (div-exact binary32 (negative b) (negative t) (magnitude b) (magnitude t) scale (pow-pos 149) (ofBits binary32 b) (ofBits binary32 t) h
       (value-read b fb) (value-read t ft))
+
+  -- By a zero nothing is rounded: IEEE 754 gives an infinity, and a NaN where both are zero, "A NaN result is #7FC00000".
+  pub quotient-by-zero : magnitude t ≡ 0 → 0 < magnitude b → quotientF b t ≡ infinity (xor (negative b) (negative t))
+  unfolding quotientF rounded
+  quotient-by-zero z h =
+      ap (toBits binary32) (div-zero binary32 (negative b) (negative t) scale (pow-pos 149) (magnitude b) (ofBits binary32 b) (ofBits binary32 t) h
+      (value-read b fb) (rw z at (value-read t ft)))
+      ∙ infinity-bits (xor (negative b) (negative t))
+
+  pub zero-by-zero : magnitude t ≡ 0 → magnitude b ≡ 0 → quotientF b t ≡ 0x7fc0_0000
+  unfolding quotientF rounded toBits
+  zero-by-zero z h =
+      ap (toBits binary32) (zero-div-zero binary32 (negative b) (negative t) scale (pow-pos 149) (ofBits binary32 b) (ofBits binary32 t)
+      (rw h at (value-read b fb)) (rw z at (value-read t ft)))
+
+  -- CMPF: "order .. judged by cross products of whole numbers", here over one scale; both zeros are equal.
+  pub order-exact : orderedF b t ≡ sense (ltZ (exact b) (exact t)) (ltZ (exact t) (exact b))
+  unfolding orderedF
+  order-exact =
+      ap₂ sense
+      (lt-exact (negative b) (negative t) (magnitude b) (magnitude t) scale (pow-pos 149) (ofBits binary32 b) (ofBits binary32 t)
+      (value-read b fb) (value-read t ft))
+      (lt-exact (negative t) (negative b) (magnitude t) (magnitude b) scale (pow-pos 149) (ofBits binary32 t) (ofBits binary32 b)
+      (value-read t ft) (value-read b fb))

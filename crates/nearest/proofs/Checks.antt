@@ -1,6 +1,6 @@
 -- The definitions at bits that everyone knows, computed: the smallest value, 1, -2.5, the largest, and what the midpoint is halfway between. Assumes nothing.
 use mathlib.Core.Path.{_≡_, refl}
-use Prim.Native.Nat.{ℕ, _+_, _-_, _*_, _^_}
+use Prim.Native.Nat.{_+_, _-_, _*_, _^_}
 use lib.IntN.{pos, negℤ, _*ℤ_}
 use Rattle.nearest.specs.Nearest.{scale, magnitude, exact, midpoint}
 

@@ -3,11 +3,11 @@
 use mathlib.Core.Path.{_≡_, refl, sym, ap, ap₂, _∙_, subst}
 use mathlib.Core.Logic.{_⊎_, inl, inr}
 use mathlib.Core.Bool.{Bool, true, false, not, _&&_, Bool·beq, xor, cond}
-use Prim.Native.Nat.{ℕ, zero, suc, _+_, _-_, _*_, _≤_, _<_}
-use native.Mathlib.Nat.{lt-irrefl, zero-mul, mul-assoc, mul-comm, mul-right-comm, mul-mul-mul-comm, mul-pos, add-mul, mul-sub, mul-left-comm, eq-of-mul-eq-mul-right, mul-le-mul-right, mul-lt-mul-of-pos-right, lt-of-mul-lt-mul-right, le-of-mul-le-mul-right}
-use lib.Dec.{ltb, eqb}
+use Prim.Native.Nat.{ℕ, _+_, _-_, _*_, _≤_, _<_}
+use native.Mathlib.Nat.{lt-irrefl, eq-zero-or-pos, zero-mul, mul-assoc, mul-comm, mul-right-comm, mul-mul-mul-comm, mul-pos, add-mul, mul-sub, mul-left-comm, eq-of-mul-eq-mul-right, mul-le-mul-right, mul-lt-mul-of-pos-right, lt-of-mul-lt-mul-right, le-of-mul-le-mul-right}
+use lib.Dec.{ltb}
 use lib.IntN.{_+ℤ_, _-ℤ_, negℤ, negℤ-negℤ, pos}
-use borrow.Author.Tests.{lt-ltb, le-ltb, ne-eqb}
+use borrow.Author.Tests.{lt-ltb, le-ltb, eq-eqb, ne-eqb}
 use lib.Ieee.{Float, nan, inf, fin, Format, up, down, round, neg, sum, add, sub, mul, div}
 use lib.Ieee.Exact.{HasValue}
 use lib.Ieee.Fits.{up-pos, down-pos}
@@ -23,7 +23,7 @@ sub-mul x y k = mul-comm (x - y) k ∙ mul-sub k x y ∙ ap₂ (λ p q. p - q) (
 -- ---- two fractions over one number, in two ways: m / c = M / l and n / c = N / l
 
 module _ (m n c M N l : ℕ) (C : 0 < c) (L : 0 < l) (p : m * l ≡ M * c) (q : n * l ≡ N * c) where
-  same-order : ltb m n ≡ ltb M N
+  pub same-order : ltb m n ≡ ltb M N
   same-order = go (either-way n m)
     where
       go : (n ≤ m) ⊎ (m < n) → ltb m n ≡ ltb M N
@@ -33,11 +33,18 @@ module _ (m n c M N l : ℕ) (C : 0 < c) (L : 0 < l) (p : m * l ≡ M * c) (q : 
           lt-ltb m n h
           ∙ sym (lt-ltb M N (lt-of-mul-lt-mul-right c (subst (λ (x : ℕ). x < N * c) p (subst (λ (x : ℕ). m * l < x) q (mul-lt-mul-of-pos-right h L)))))
 
-  same-sum : (m + n) * l ≡ (M + N) * c
+  pub same-sum : (m + n) * l ≡ (M + N) * c
   same-sum = add-mul m n l ∙ ap₂ (λ x y. x + y) p q ∙ sym (add-mul M N c)
 
   same-difference : (m - n) * l ≡ (M - N) * c
   same-difference = sub-mul m n l ∙ ap₂ (λ x y. x - y) p q ∙ sym (sub-mul M N c)
+
+-- i / e = m / l, brought over e * d, and over d * e
+pub first-over : (i e d m l : ℕ) → i * l ≡ m * e → i * d * l ≡ m * (e * d)
+first-over i e d m l v = mul-right-comm i d l ∙ ap (λ z. z * d) v ∙ mul-assoc m e d
+
+pub second-over : (i e d m l : ℕ) → i * l ≡ m * e → i * d * l ≡ m * (d * e)
+second-over i e d m l v = first-over i e d m l v ∙ ap (λ z. m * z) (mul-comm e d)
 
 sum-same : (f : Format) (s t : Bool) (m n c M N l : ℕ) → 0 < c → 0 < l → m * l ≡ M * c → n * l ≡ N * c → sum f s m t n c ≡ sum f s M t N l
 unfolding sum
@@ -70,8 +77,7 @@ module _ (f : Format) (s t : Bool) (m n l : ℕ) (L : 0 < l) where
   add-exact (fin u i e) (fin u' j d) v w =
       ap₂ (λ a b. sum f a (i * up e * down d) b (j * up d * down e) (down e * down d)) (v .0) (w .0)
       ∙ sum-same f s t (i * up e * down d) (j * up d * down e) (down e * down d) m n l (mul-pos (down-pos e) (down-pos d)) L
-      (mul-right-comm (i * up e) (down d) l ∙ ap (λ z. z * down d) (v .1) ∙ mul-assoc m (down e) (down d))
-      (mul-right-comm (j * up d) (down e) l ∙ ap (λ z. z * down e) (w .1) ∙ mul-assoc n (down d) (down e) ∙ ap (λ z. n * z) (mul-comm (down d) (down e)))
+      (first-over (i * up e) (down e) (down d) m l (v .1)) (second-over (j * up d) (down d) (down e) n l (w .1))
       ∙ sum-exact f s t m n l
 
   pub mul-exact : (x y : Float) → HasValue x s m l → HasValue y t n l → mul f x y ≡ round f (xor s t) (m * n) (l * l)
@@ -97,6 +103,31 @@ module _ (f : Format) (s t : Bool) (m n l : ℕ) (L : 0 < l) where
       (ap₂ (λ a b. round f (xor a b) (i * up e * down d) (j * up d * down e)) (v .0) (w .0)
       ∙ round-same f (xor s t) (i * up e * down d) (j * up d * down e) m n (mul-pos (mul-pos J (up-pos d)) (down-pos e)) N
       (cross-quotient (i * up e) (down e) (j * up d) (down d) m n l L (v .1) (w .1)))
+
+-- by a zero: an infinity, and a NaN where both are zero
+zero-of : (j u l z : ℕ) → 0 < u → 0 < l → j * u * l ≡ 0 * z → j ≡ 0
+zero-of j u l z U L e = elim (eq-zero-or-pos j) [ inl h ↦ h | inr h ↦ absurd (lt-irrefl 0 (subst (λ (k : ℕ). 0 < k) (e ∙ zero-mul z) (mul-pos (mul-pos h U) L))) ]
+
+module _ (f : Format) (s t : Bool) (l : ℕ) (L : 0 < l) where
+  pub div-zero : (m : ℕ) (x y : Float) → 0 < m → HasValue x s m l → HasValue y t 0 l → div f x y ≡ inf (xor s t)
+  unfolding div xor
+  div-zero m nan y M v w = absurd v
+  div-zero m (inf u) y M v w = absurd v
+  div-zero m (fin u i e) nan M v w = absurd w
+  div-zero m (fin u i e) (inf u') M v w = absurd w
+  div-zero m (fin u i e) (fin u' j d) M v w =
+      let I : 0 < i = first-pos i (up e) (first-pos (i * up e) l (subst (λ (z : ℕ). 0 < z) (sym (v .1)) (mul-pos M (down-pos e)))) in
+      rw (eq-eqb j 0 (zero-of j (up d) l (down d) (up-pos d) L (w .1)), ne-eqb i 0 (λ (z : i ≡ 0). lt-irrefl 0 (subst (λ (k : ℕ). 0 < k) z I)))
+      (ap₂ (λ a b. inf (xor a b)) (v .0) (w .0))
+
+  pub zero-div-zero : (x y : Float) → HasValue x s 0 l → HasValue y t 0 l → div f x y ≡ nan
+  unfolding div
+  zero-div-zero nan y v w = absurd v
+  zero-div-zero (inf u) y v w = absurd v
+  zero-div-zero (fin u i e) nan v w = absurd w
+  zero-div-zero (fin u i e) (inf u') v w = absurd w
+  zero-div-zero (fin u i e) (fin u' j d) v w =
+      rw (eq-eqb j 0 (zero-of j (up d) l (down d) (up-pos d) L (w .1)), eq-eqb i 0 (zero-of i (up e) l (down e) (up-pos e) L (v .1))) refl
 
 neg-value : (y : Float) (t : Bool) (n l : ℕ) → HasValue y t n l → HasValue (neg y) (not t) n l
 unfolding neg

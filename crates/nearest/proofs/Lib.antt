@@ -9,5 +9,6 @@ pub mod Rounded
 pub mod Unique
 pub mod Sum
 pub mod Exact
+pub mod Compare
 pub mod Cells
 pub mod Checks

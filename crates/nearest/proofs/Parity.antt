@@ -1,8 +1,8 @@
 -- Where the digits that `round` keeps are even, the last bit of the result is 0. Assumes nothing.
 use mathlib.Core.Path.{_≡_, sym, ap, _∙_}
 use mathlib.Core.Logic.{_⊎_, inl, inr}
-use Prim.Native.Nat.{ℕ, suc, _+_, _-_, _*_, _/_, _%_, _^_, _≤_, _<_, compare}
-use native.Mathlib.Nat.{le-trans, lt-of-le-of-lt, mul-assoc, mul-right-comm, mul-mod-left, mul-le-mul-left, eq-of-mul-eq-mul-right, div-div-eq-div-mul}
+use Prim.Native.Nat.{ℕ, _-_, _*_, _/_, _%_, _^_, _≤_, _<_, compare}
+use native.Mathlib.Nat.{le-trans, mul-assoc, mul-right-comm, mul-mod-left, mul-le-mul-left, eq-of-mul-eq-mul-right, div-div-eq-div-mul}
 use native.Mathlib.Omega.{arith}
 use lib.Pow.{pow-add, pow-pos, pow-mono}
 use lib.Ieee.Digits.{back}
@@ -10,7 +10,7 @@ use lib.Ieee.Fits.{kept-lt, nearest-le}
 use lib.Ieee.Order.{drop, kept}
 use Rattle.nearest.specs.Nearest.{magnitude}
 use Rattle.nearest.proofs.Order.{either-way}
-use Rattle.nearest.proofs.Parts.{Parts, parts}
+use Rattle.nearest.proofs.Parts.{parts}
 
 pub kept-le : (p n c : ℕ) → kept p n c ≤ 2 ^ p
 kept-le p n c =

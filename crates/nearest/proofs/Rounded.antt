@@ -1,7 +1,7 @@
 -- The nearest theorem, once: the bits of lib.Ieee's `round` of a / c are those of the nearest binary32 value. Assumes nothing.
 -- The F operations cite it (Cells.antt). A decimal with n for its digits and k of them after the point is the exact value n / 10 ^ k,
 -- and an INT is n / 1: what rounds them to a FLOAT later cites `nearest-value` and `only-nearest` at those fractions, and says nothing of its own.
-use mathlib.Core.Path.{_≡_, refl, sym, ap, _∙_, subst}
+use mathlib.Core.Path.{_≡_, refl, sym, ap, _∙_}
 use mathlib.Core.Logic.{_⊎_, inl, inr, _≢_}
 use mathlib.Core.Bool.{Bool, true, false}
 use Prim.Native.Nat.{ℕ, _*_, _%_, _^_, _≤_, _<_}
@@ -9,7 +9,7 @@ use lib.Ieee.{inf, binary32, round, toBits}
 use lib.Ieee.Fits.{two, two-le-pos, round-fits}
 use lib.Ieee.Order.{drop, kept}
 use lib.Ieee.Scale.{grid}
-use Rattle.nearest.specs.Nearest.{negative, Finite, scale, magnitude, apart, AsNear, midpoint, infinity, IsNearest}
+use Rattle.nearest.specs.Nearest.{negative, Finite, scale, magnitude, AsNear, midpoint, infinity, IsNearest}
 use Rattle.nearest.proofs.Order.{either-way}
 use Rattle.nearest.proofs.Grid.{grid-beats, grid-tie}
 use Rattle.nearest.proofs.Cell.{written-finite, written-sign, written-magnitude}
@@ -17,7 +17,7 @@ use Rattle.nearest.proofs.Parts.{parts}
 use Rattle.nearest.proofs.Overflow.{round-over, round-under}
 use Rattle.nearest.proofs.Parity.{kept-le, even-bits}
 
-infinity-bits : (s : Bool) → toBits binary32 (inf s) ≡ infinity s
+pub infinity-bits : (s : Bool) → toBits binary32 (inf s) ≡ infinity s
 unfolding toBits
 infinity-bits true = refl
 infinity-bits false = refl

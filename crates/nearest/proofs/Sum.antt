@@ -1,22 +1,15 @@
 -- lib.Ieee's operations on finite values given as fractions over one whole number l: each is `round` of the exact result. Assumes nothing.
-use mathlib.Core.Path.{_≡_, refl, sym, ap, ap₂, _∙_, subst}
-use mathlib.Core.Logic.{_⊎_, inl, inr}
-use mathlib.Core.Bool.{Bool, true, false, not, _&&_, Bool·beq, xor, cond}
-use Prim.Native.Nat.{ℕ, zero, suc, _+_, _-_, _*_, _≤_, _<_}
-use native.Mathlib.Nat.{le-of-lt, lt-irrefl, zero-mul, mul-assoc, mul-comm, mul-right-comm, mul-mul-mul-comm, mul-pos, add-mul, mul-sub, mul-le-mul-right, mul-lt-mul-of-pos-right, lt-of-mul-lt-mul-right, le-of-mul-le-mul-right}
+use mathlib.Core.Path.{_≡_, refl, sym, ap, ap₂, _∙_}
+use mathlib.Core.Bool.{Bool, true, false, _&&_, cond}
+use Prim.Native.Nat.{ℕ, zero, suc, _+_, _-_, _≤_, _<_}
 use native.Mathlib.Omega.{arith}
-use lib.Dec.{ltb, eqb}
-use lib.IntN.{ℤ, pos, negsuc, negℤ, natAbs, subℕ, _+ℤ_, _-ℤ_, +ℤ-comm, negℤ-+ℤ, negℤ-negℤ}
-use borrow.Author.Tests.{lt-ltb, le-ltb, ltb-true, ltb-false, ne-eqb}
-use lib.Ieee.{Float, nan, inf, fin, Format, up, down, unlike, round, neg, sum, add, sub, mul, div}
-use lib.Ieee.Exact.{HasValue}
-use lib.Ieee.Fits.{up-pos, down-pos}
-use lib.Ieee.Scale.{round-same}
-use lib.Ieee.Positive.{first-pos}
+use lib.Dec.{ltb}
+use lib.IntN.{ℤ, pos, negsuc, negℤ, natAbs, subℕ, _+ℤ_, +ℤ-comm, negℤ-+ℤ}
+use borrow.Author.Tests.{le-ltb, ltb-true, ltb-false}
+use lib.Ieee.{Float, Format, round, sum}
 use Rattle.nearest.specs.Nearest.{withSign, signOr}
-use Rattle.nearest.proofs.Order.{either-way}
 
--- ---- the sum of two withSign whole numbers, by their signs and sizes
+-- ---- the sum of two whole numbers with signs, by their signs and sizes
 
 -- round of z / l, where z is a whole number with a sign, and zero has the sign s
 abbrev pub roundOf : Format → Bool → ℤ → ℕ → Float

@@ -2,13 +2,13 @@
 -- Of two that are equally near, both with an even last bit, one would lie a step or more above the other, and the bits next to the lower one
 -- would be those of a value between the two, which is nearer.
 use mathlib.Core.Path.{_≡_, sym, _∙_}
-use mathlib.Core.Logic.{_⊎_, inl, inr, _≢_}
+use mathlib.Core.Logic.{_⊎_, inl, inr}
 use mathlib.Core.Bool.{Bool}
-use Prim.Native.Nat.{ℕ, suc, _+_, _-_, _*_, _/_, _%_, _^_, _≤_, _<_}
+use Prim.Native.Nat.{ℕ, suc, _*_, _%_, _≤_, _<_}
 use native.Mathlib.Nat.{eq-or-lt-of-le, lt-suc-self, mul-lt-mul-of-pos-right}
 use native.Mathlib.Omega.{arith}
 use lib.Ieee.{binary32, round, toBits}
-use Rattle.nearest.specs.Nearest.{negative, exponent, Finite, scale, magnitude, apart, AsNear, midpoint, IsNearest, Rounded}
+use Rattle.nearest.specs.Nearest.{negative, Finite, scale, magnitude, apart, midpoint, IsNearest, Rounded}
 use Rattle.nearest.proofs.Order.{either-way}
 use Rattle.nearest.proofs.Parts.{magnitude-rises, between-finite, between-sign}
 use Rattle.nearest.proofs.Rounded.{nearest-value}
