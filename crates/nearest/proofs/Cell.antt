@@ -62,15 +62,16 @@ same-size nan s t m n l v w = absurd v
 same-size (inf u) s t m n l v w = absurd v
 same-size (fin u k e) s t m n l v w = eq-of-mul-eq-mul-right (down e) (down-pos e) m n (sym (v .1) ∙ w .1)
 
+-- bits whose value is finite are finite in the sense of the fields
+pub read-finite : (b : ℕ) → b < 2 ^ 32 → T (finite (ofBits binary32 b)) → Finite b
+read-finite b h t = record {
+  cell = h;
+  field = ofFields-finite (negative b) (exponent b) (fraction b) (mod-lt (b / 2 ^ 23) (pow-pos 8)) (rw (ofBits-fields b) at t);
+}
+
 module _ (x : Float) (s : Bool) (m : ℕ) (holds : T (fits binary32 x)) (v : HasValue x s m scale) where
   pub written-finite : Finite (toBits binary32 x)
-  written-finite = record {
-    cell = toBits-lt binary32 x holds;
-    field =
-        ofFields-finite (negative (toBits binary32 x)) (exponent (toBits binary32 x)) (fraction (toBits binary32 x))
-        (mod-lt (toBits binary32 x / 2 ^ 23) (pow-pos 8))
-        (subst (λ (y : Float). T (finite y)) (sym (ofBits-toBits binary32 x holds) ∙ ofBits-fields (toBits binary32 x)) (value-finite x s m scale v));
-  }
+  written-finite = read-finite (toBits binary32 x) (toBits-lt binary32 x holds) (rw (ofBits-toBits binary32 x holds) (value-finite x s m scale v))
 
   read-back : HasValue x (negative (toBits binary32 x)) (magnitude (toBits binary32 x)) scale
   read-back =

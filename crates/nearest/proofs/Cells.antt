@@ -11,9 +11,9 @@ use lib.Signed.{ltZ}
 use lib.Ieee.{Float, binary32, round, ofBits, toBits}
 use Rattle.rules.specs.Floats.{rounded, plusF, minusF, timesF, quotientF, orderedF}
 use Rattle.rules.specs.Words.{sense}
-use Rattle.nearest.specs.Nearest.{negative, Finite, scale, magnitude, exact, signOr, infinity, Rounded}
+use Rattle.nearest.specs.Nearest.{negative, Finite, scale, magnitude, exact, signOr, infinity, Rounded, RoundedSigned}
 use Rattle.nearest.proofs.Cell.{value-read}
-use Rattle.nearest.proofs.Rounded.{infinity-bits}
+use Rattle.nearest.proofs.Nearest.{infinity-bits}
 use Rattle.nearest.proofs.Unique.{round-rounded}
 use Rattle.nearest.proofs.Exact.{add-exact, sub-exact, mul-exact, div-exact, div-zero, zero-div-zero}
 use Rattle.nearest.proofs.Compare.{lt-exact}
@@ -23,7 +23,7 @@ by-round x s a c C e = subst (λ (y : Float). Rounded s a c (toBits binary32 y))
 
 module _ (b t : ℕ) (fb : Finite b) (ft : Finite t) where
   -- ADDF. The sign is that of the exact sum; an exact zero is +0, and -0 only where both are negative.
-  pub sum-rounded : Rounded (signOr (negative b && negative t) (exact b +ℤ exact t)) (natAbs (exact b +ℤ exact t)) scale (plusF b t)
+  pub sum-rounded : RoundedSigned (negative b && negative t) (exact b +ℤ exact t) scale (plusF b t)
   unfolding plusF rounded
   sum-rounded =
       by-round _ (signOr (negative b && negative t) (exact b +ℤ exact t)) (natAbs (exact b +ℤ exact t)) scale (pow-pos 149)
@@ -31,7 +31,7 @@ module _ (b t : ℕ) (fb : Finite b) (ft : Finite t) where
       (value-read b fb) (value-read t ft))
 
   -- SUBF, "Vb op Vt": the same, with the sign of t turned round.
-  pub difference-rounded : Rounded (signOr (negative b && not (negative t)) (exact b -ℤ exact t)) (natAbs (exact b -ℤ exact t)) scale (minusF b t)
+  pub difference-rounded : RoundedSigned (negative b && not (negative t)) (exact b -ℤ exact t) scale (minusF b t)
   unfolding minusF rounded
   difference-rounded =
       by-round _ (signOr (negative b && not (negative t)) (exact b -ℤ exact t)) (natAbs (exact b -ℤ exact t)) scale (pow-pos 149)

@@ -11,7 +11,7 @@ use lib.Ieee.{Float, nan, inf, fin, up, down, below, lt}
 use lib.Ieee.Exact.{HasValue}
 use lib.Ieee.Fits.{down-pos}
 use Rattle.nearest.specs.Nearest.{withSign}
-use Rattle.nearest.proofs.Exact.{same-order, same-sum, first-over, second-over}
+use Rattle.nearest.proofs.Fractions.{same-order, same-sum, first-over, second-over}
 
 below-exact : (s t : Bool) (m n : ℕ) → below s m t n ≡ ltZ (withSign s m) (withSign t n)
 below-exact false false m n = refl

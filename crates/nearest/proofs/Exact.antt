@@ -1,50 +1,20 @@
 -- lib.Ieee's operations on finite values x and y, given with their signs as the fractions m / l and n / l: each is `round` of the exact result.
 -- Assumes nothing.
 use mathlib.Core.Path.{_≡_, refl, sym, ap, ap₂, _∙_, subst}
-use mathlib.Core.Logic.{_⊎_, inl, inr}
 use mathlib.Core.Bool.{Bool, true, false, not, _&&_, Bool·beq, xor, cond}
-use Prim.Native.Nat.{ℕ, _+_, _-_, _*_, _≤_, _<_}
-use native.Mathlib.Nat.{lt-irrefl, eq-zero-or-pos, zero-mul, mul-assoc, mul-comm, mul-right-comm, mul-mul-mul-comm, mul-pos, add-mul, mul-sub, mul-left-comm, eq-of-mul-eq-mul-right, mul-le-mul-right, mul-lt-mul-of-pos-right, lt-of-mul-lt-mul-right, le-of-mul-le-mul-right}
+use Prim.Native.Nat.{ℕ, _+_, _-_, _*_, _<_}
+use native.Mathlib.Nat.{lt-irrefl, mul-mul-mul-comm, mul-pos}
 use lib.Dec.{ltb}
 use lib.IntN.{_+ℤ_, _-ℤ_, negℤ, negℤ-negℤ, pos}
-use borrow.Author.Tests.{lt-ltb, le-ltb, eq-eqb, ne-eqb}
+use borrow.Author.Tests.{eq-eqb, ne-eqb}
 use lib.Ieee.{Float, nan, inf, fin, Format, up, down, round, neg, sum, add, sub, mul, div}
 use lib.Ieee.Exact.{HasValue}
 use lib.Ieee.Fits.{up-pos, down-pos}
 use lib.Ieee.Scale.{round-same}
 use lib.Ieee.Positive.{first-pos}
 use Rattle.nearest.specs.Nearest.{withSign}
-use Rattle.nearest.proofs.Order.{either-way}
+use Rattle.nearest.proofs.Fractions.{same-order, same-sum, same-difference, first-over, second-over, cross-quotient, zero-of}
 use Rattle.nearest.proofs.Sum.{roundOf, sum-exact}
-
-sub-mul : (x y k : ℕ) → (x - y) * k ≡ x * k - y * k
-sub-mul x y k = mul-comm (x - y) k ∙ mul-sub k x y ∙ ap₂ (λ p q. p - q) (mul-comm k x) (mul-comm k y)
-
--- ---- two fractions over one number, in two ways: m / c = M / l and n / c = N / l
-
-module _ (m n c M N l : ℕ) (C : 0 < c) (L : 0 < l) (p : m * l ≡ M * c) (q : n * l ≡ N * c) where
-  pub same-order : ltb m n ≡ ltb M N
-  same-order = go (either-way n m)
-    where
-      go : (n ≤ m) ⊎ (m < n) → ltb m n ≡ ltb M N
-      go (inl h) =
-          le-ltb m n h ∙ sym (le-ltb M N (le-of-mul-le-mul-right (subst (λ (x : ℕ). x ≤ M * c) q (subst (λ (x : ℕ). n * l ≤ x) p (mul-le-mul-right l h))) C))
-      go (inr h) =
-          lt-ltb m n h
-          ∙ sym (lt-ltb M N (lt-of-mul-lt-mul-right c (subst (λ (x : ℕ). x < N * c) p (subst (λ (x : ℕ). m * l < x) q (mul-lt-mul-of-pos-right h L)))))
-
-  pub same-sum : (m + n) * l ≡ (M + N) * c
-  same-sum = add-mul m n l ∙ ap₂ (λ x y. x + y) p q ∙ sym (add-mul M N c)
-
-  same-difference : (m - n) * l ≡ (M - N) * c
-  same-difference = sub-mul m n l ∙ ap₂ (λ x y. x - y) p q ∙ sym (sub-mul M N c)
-
--- i / e = m / l, brought over e * d, and over d * e
-pub first-over : (i e d m l : ℕ) → i * l ≡ m * e → i * d * l ≡ m * (e * d)
-first-over i e d m l v = mul-right-comm i d l ∙ ap (λ z. z * d) v ∙ mul-assoc m e d
-
-pub second-over : (i e d m l : ℕ) → i * l ≡ m * e → i * d * l ≡ m * (d * e)
-second-over i e d m l v = first-over i e d m l v ∙ ap (λ z. m * z) (mul-comm e d)
 
 sum-same : (f : Format) (s t : Bool) (m n c M N l : ℕ) → 0 < c → 0 < l → m * l ≡ M * c → n * l ≡ N * c → sum f s m t n c ≡ sum f s M t N l
 unfolding sum
@@ -56,14 +26,6 @@ sum-same f s t m n c M N l C L p q =
     (ap (λ b. round f (s && b) (m - n) c) (same-order n m c N M l C L q p)
     ∙ round-same f (s && ltb N M) (m - n) c (M - N) l C L (same-difference m n c M N l C L p q))
     ∙ ap (λ b. cond b (round f t (N - M) l) (round f (s && ltb N M) (M - N) l)) (same-order m n c M N l C L p q))
-
--- i / e = m / l and j / d = n / l: then i / e by j / d is m / n
-cross-quotient : (i e j d m n l : ℕ) → 0 < l → i * l ≡ m * e → j * l ≡ n * d → i * d * n ≡ m * (j * e)
-cross-quotient i e j d m n l L v w =
-    eq-of-mul-eq-mul-right l L (i * d * n) (m * (j * e))
-    (let a : i * d * n * l ≡ i * l * (n * d) = simp (mul-assoc, mul-comm, mul-left-comm) in
-    let b : m * e * (j * l) ≡ m * (j * e) * l = simp (mul-assoc, mul-comm, mul-left-comm) in
-    a ∙ ap₂ (λ x y. x * y) v (sym w) ∙ b)
 
 -- ---- the operations
 
@@ -105,9 +67,6 @@ module _ (f : Format) (s t : Bool) (m n l : ℕ) (L : 0 < l) where
       (cross-quotient (i * up e) (down e) (j * up d) (down d) m n l L (v .1) (w .1)))
 
 -- by a zero: an infinity, and a NaN where both are zero
-zero-of : (j u l z : ℕ) → 0 < u → 0 < l → j * u * l ≡ 0 * z → j ≡ 0
-zero-of j u l z U L e = elim (eq-zero-or-pos j) [ inl h ↦ h | inr h ↦ absurd (lt-irrefl 0 (subst (λ (k : ℕ). 0 < k) (e ∙ zero-mul z) (mul-pos (mul-pos h U) L))) ]
-
 module _ (f : Format) (s t : Bool) (l : ℕ) (L : 0 < l) where
   pub div-zero : (m : ℕ) (x y : Float) → 0 < m → HasValue x s m l → HasValue y t 0 l → div f x y ≡ inf (xor s t)
   unfolding div xor

@@ -5,8 +5,9 @@ pub mod Cell
 pub mod Parts
 pub mod Overflow
 pub mod Parity
-pub mod Rounded
+pub mod Nearest
 pub mod Unique
+pub mod Fractions
 pub mod Sum
 pub mod Exact
 pub mod Compare

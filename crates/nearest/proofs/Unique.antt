@@ -11,7 +11,7 @@ use lib.Ieee.{binary32, round, toBits}
 use Rattle.nearest.specs.Nearest.{negative, Finite, scale, magnitude, apart, midpoint, IsNearest, Rounded}
 use Rattle.nearest.proofs.Order.{either-way}
 use Rattle.nearest.proofs.Parts.{magnitude-rises, between-finite, between-sign}
-use Rattle.nearest.proofs.Rounded.{nearest-value}
+use Rattle.nearest.proofs.Nearest.{nearest-value}
 
 nearer : (x z y n : ℕ) → x < z → z < y → apart x n ≤ apart y n → apart y n ≤ apart x n → apart x n ≤ apart z n → ⊥
 nearer x z y n xz zy p q r = omega arith
@@ -53,6 +53,7 @@ one-nearest s a c C x y m n = go (either-way (midpoint * c) a)
 pub only-nearest : (s : Bool) (a c : ℕ) → 0 < c → (x : ℕ) → IsNearest s a c x → x ≡ toBits binary32 (round binary32 s a c)
 only-nearest s a c C x m = one-nearest s a c C x (toBits binary32 (round binary32 s a c)) m (nearest-value s a c C)
 
--- what every use of `round` cites
+-- The nearest theorem, once. The F operations cite it (Cells.antt), and what later rounds to a FLOAT is to cite it too, at its own fraction: a decimal
+-- with k digits after the point is its digits over 10 ^ k, with its sign, and an INT is itself over 1 (Checks.antt has one of each).
 pub round-rounded : (s : Bool) (a c : ℕ) → 0 < c → Rounded s a c (toBits binary32 (round binary32 s a c))
 round-rounded s a c C = record { nearest = nearest-value s a c C; only = only-nearest s a c C }

@@ -6,7 +6,7 @@ use mathlib.Core.Path.{_≡_}
 use mathlib.Core.Logic.{_≢_}
 use mathlib.Core.Bool.{Bool, true, false, cond}
 use lib.Dec.{leb}
-use lib.IntN.{ℤ, pos, negsuc, negℤ}
+use lib.IntN.{ℤ, pos, negsuc, negℤ, natAbs}
 
 -- ---- what a cell's bits stand for
 
@@ -38,18 +38,12 @@ unfoldable pub magnitude : ℕ → ℕ
 unfolding scaled
 magnitude b = scaled (exponent b) (fraction b)
 
--- the same with its sign: the whole number that stands over scale
+-- with its sign it is exact b / scale
 abbrev pub withSign : Bool → ℕ → ℤ
 withSign s m = cond s (negℤ (pos m)) (pos m)
 
 abbrev pub exact : ℕ → ℤ
 exact b = withSign (negative b) (magnitude b)
-
--- the sign of an exact value; of an exact zero it is the one that IEEE 754 gives, z
-abbrev pub signOr : Bool → ℤ → Bool
-signOr z (pos zero) = z
-signOr z (pos (suc n)) = false
-signOr z (negsuc n) = true
 
 -- ---- what the nearest value is
 
@@ -85,3 +79,12 @@ pub record IsNearest (s : Bool) (a c x : ℕ) : Type 0 where
 pub record Rounded (s : Bool) (a c x : ℕ) : Type 0 where
   pub nearest : IsNearest s a c x
   pub only : (y : ℕ) → IsNearest s a c y → y ≡ x
+
+-- the same of z / c, where the whole number z has a sign of its own; an exact zero has the sign that IEEE 754 gives it, s
+abbrev pub signOr : Bool → ℤ → Bool
+signOr s (pos zero) = s
+signOr s (pos (suc n)) = false
+signOr s (negsuc n) = true
+
+abbrev pub RoundedSigned : Bool → ℤ → ℕ → ℕ → Type 0
+RoundedSigned s z c x = Rounded (signOr s z) (natAbs z) c x

@@ -1,6 +1,4 @@
--- The nearest theorem, once: the bits of lib.Ieee's `round` of a / c are those of the nearest binary32 value. Assumes nothing.
--- The F operations cite it (Cells.antt). A decimal with n for its digits and k of them after the point is the exact value n / 10 ^ k,
--- and an INT is n / 1: what rounds them to a FLOAT later cites `nearest-value` and `only-nearest` at those fractions, and says nothing of its own.
+-- The bits of lib.Ieee's `round` of a / c are those of the nearest binary32 value. Assumes nothing.
 use mathlib.Core.Path.{_≡_, refl, sym, ap, _∙_}
 use mathlib.Core.Logic.{_⊎_, inl, inr, _≢_}
 use mathlib.Core.Bool.{Bool, true, false}
