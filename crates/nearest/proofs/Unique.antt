@@ -1,5 +1,5 @@
 -- Only one number is the bits of the nearest value, so what `round` makes is the only one. Assumes nothing.
--- Of two that are equally near, both with an even last bit, one would lie a step or more above the other, and the bits next to the lower one
+-- Of two that are equally near, both with an even last bit, one would be two or more above the other, and the bits next above the lower one
 -- would be those of a value between the two, which is nearer.
 use mathlib.Core.Path.{_≡_, sym, _∙_}
 use mathlib.Core.Logic.{_⊎_, inl, inr}
