@@ -2,7 +2,7 @@
 use mathlib.Core.Path.{_≡_, refl, sym, ap, ap₂, _∙_, subst, subst₂}
 use mathlib.Core.Logic.{_⊎_, inl, inr, _≢_}
 use Prim.Native.Nat.{ℕ, zero, suc, _+_, _-_, _/_, _%_, _^_, _≤_, _<_, zero-le, suc-le-suc}
-use native.Mathlib.Nat.{le-of-suc-le-suc, lt-of-le-of-lt, le-trans, le-of-lt, div-le-self, div-lt-self, zero-lt-suc, div-one}
+use native.Mathlib.Nat.{le-of-suc-le-suc, lt-of-le-of-lt, le-trans, le-of-lt, div-le-self, div-lt-self, zero-lt-suc, div-one, div-zero, mod-zero}
 use native.Mathlib.Omega.{arith}
 use lib.Arith.{lt-of-le-ne}
 use lib.IntN.{ℤ, pos, negsuc, negℤ}
@@ -10,7 +10,8 @@ use lib.Signed.{mag, quotZ, remZ, mag-rem}
 use mir.Syntax.{w32}
 use mir.Val.{Fits, SFits, toZ, ofZ}
 use mir.Facts.{toZ-ofZ, ofZ-toZ, toZ-inj, sfits-toZ, fits-lit}
-use Rattle.rules.specs.Words.{signed, word}
+use Rattle.rules.specs.Words.{signed, word, quotient, remainder}
+use Rattle.word.proofs.Signed.{word-signed}
 
 mag-neg : (q : ℕ) {a : ℕ} → q ≤ suc a → mag (negℤ (pos q)) ≤ a
 mag-neg zero h = zero-le
@@ -66,3 +67,18 @@ module _ (a b : ℕ) (fa : Fits w32 a) (fb : Fits w32 b) (nz : b ≡ 0 → ⊥) 
   remainder-is =
       rw (reads a fa x ex, reads b fb y ey)
       (ap word (toZ-ofZ {w = w32} {z = remZ (signed a) (signed b)} (record { sfits = lt-of-le-of-lt (mag-rem (signed a) (signed b)) (sfits-signed a fa x ex .sfits) })))
+
+-- ---- by zero, where a step refuses and the definitions still have an answer
+quot-zero : (x : ℤ) → quotZ x (pos 0) ≡ pos 0
+quot-zero (pos a) = ap pos (div-zero a)
+quot-zero (negsuc a) = ap (λ (q : ℕ). negℤ (pos q)) (div-zero (suc a))
+
+rem-zero : (x : ℤ) → remZ x (pos 0) ≡ x
+rem-zero (pos a) = ap pos (mod-zero a)
+rem-zero (negsuc a) = ap (λ (r : ℕ). negℤ (pos r)) (mod-zero (suc a))
+
+pub quotient-by-zero : (b : ℕ) → 0 ≡ quotient b 0
+quotient-by-zero b = sym (ap word (quot-zero (signed b)))
+
+pub remainder-by-zero : (b : ℕ) → b < 2 ^ 32 → b ≡ remainder b 0
+remainder-by-zero b h = sym (ap word (rem-zero (signed b)) ∙ word-signed b h)

@@ -3,3 +3,4 @@ pub mod Signed
 pub mod Divide
 pub mod Halves
 pub mod Nan
+pub mod Unlike

@@ -4,12 +4,12 @@ use mathlib.Core.Bool.{Bool, true, false, not}
 use Prim.Native.Nat.{ℕ, zero, suc, _+_, _-_, _%_, _^_, _≤_, _<_}
 use native.Mathlib.Nat.{zero-lt-suc, not-suc-le-zero}
 use native.Mathlib.Omega.{arith}
-use lib.Dec.{T, ltb}
+use lib.Dec.{T, ltb, ltb→lt, nltb→le}
 use borrow.Author.Tests.{lt-ltb, le-ltb, leb-false}
 use lib.IntN.{ℤ, pos, negsuc, natAbs, subℕ, _-ℤ_}
 use lib.Signed.{mag, leZ, nonNeg}
 use mir.Syntax.{w32}
-use mir.Val.{Fits, SFits, toZ, ofZ}
+use mir.Val.{Fits, SFits, toZ, ofZ, sel}
 use mir.Facts.{toZ-ofZ, toZ-pos}
 use Rattle.rules.specs.Words.{signed, word}
 
@@ -20,6 +20,14 @@ minus-one-less (suc k) = ap (λ (x : ℕ). negsuc (suc x)) (omega arith)
 
 pub minus-one-plus : (k : ℕ) → negsuc 0 -ℤ negsuc k ≡ pos k
 minus-one-plus k = rw (le-ltb (suc k) 1 (zero-lt-suc k)) (ap pos (omega arith))
+
+-- a word is the word of the number that it stands for
+pub word-signed : (n : ℕ) → n < 2 ^ 32 → word (signed n) ≡ n
+word-signed n h = go (ltb n (2 ^ 31)) (ltb→lt n (2 ^ 31)) (nltb→le n (2 ^ 31))
+  where
+    go : (b : Bool) → (T b → n < 2 ^ 31) → (T (not b) → 2 ^ 31 ≤ n) → word (sel b (pos n) (negsuc (2 ^ 32 - suc n))) ≡ n
+    go true k l = omega arith
+    go false k l = let p : 2147483648 ≤ n = l tt in omega arith
 
 -- ---- from the bits: -1 - (2 ^ 32 - 1 - n) for an n in the upper half
 module _ (n : ℕ) (h : 2147483648 ≤ n) (l : n < 4294967296) where

@@ -3,6 +3,7 @@
 ghost use mathlib.Core.Path.{_≡_};
 ghost use lib.Ieee.{binary32, ofBits, toBits, isNan};
 ghost use Rattle.rules.specs.Floats.{plusF, minusF, timesF, quotientF, unordered, orderedF};
+use crate::tests::sense;
 
 // Whether the bits are a NaN's: without the sign, above those of an infinity.
 pub fn is_nan(b: u32) -> bool
@@ -69,20 +70,14 @@ pub fn quotient_f(b: u32, t: u32) -> u32
 pub fn unordered(b: u32, t: u32) -> bool
     ensures { λ r. ⌜ r ≡ unordered b t ⌝ }
 {
-    is_nan(b) || is_nan(t)
+    is_nan(b) | is_nan(t)
 }
 
-// CMPF: 1 if Vb < Vt, 0 if equal, -1 if Vb > Vt. With a NaN, which a step refuses, it is 0.
+// CMPF. With a NaN, which a step refuses, it is 0.
 pub fn ordered_f(b: u32, t: u32) -> u32
     ensures { λ r. ⌜ r ≡ orderedF b t ⌝ }
 {
     let x = value_of(b);
     let y = value_of(t);
-    if x < y {
-        return 1;
-    }
-    if y < x {
-        return 4294967295;
-    }
-    0
+    sense(x < y, y < x)
 }

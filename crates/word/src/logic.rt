@@ -9,35 +9,35 @@ use crate::tests::holds;
 pub fn and(b: u32, t: u32) -> u32
     ensures { λ r. ⌜ r ≡ logic _&&_ b t ⌝ }
 {
-    bit(holds(b) && holds(t))
+    bit(holds(b) & holds(t))
 }
 
 // OR
 pub fn or(b: u32, t: u32) -> u32
     ensures { λ r. ⌜ r ≡ logic _||_ b t ⌝ }
 {
-    bit(holds(b) || holds(t))
+    bit(holds(b) | holds(t))
 }
 
 // NAND
 pub fn nand(b: u32, t: u32) -> u32
     ensures { λ r. ⌜ r ≡ logic nand b t ⌝ }
 {
-    bit(!(holds(b) && holds(t)))
+    bit(!(holds(b) & holds(t)))
 }
 
 // NOR
 pub fn nor(b: u32, t: u32) -> u32
     ensures { λ r. ⌜ r ≡ logic nor b t ⌝ }
 {
-    bit(!(holds(b) || holds(t)))
+    bit(!(holds(b) | holds(t)))
 }
 
 // XOR
 pub fn xor(b: u32, t: u32) -> u32
     ensures { λ r. ⌜ r ≡ logic unlike b t ⌝ }
 {
-    bit(holds(b) != holds(t))
+    bit(holds(b) ^ holds(t))
 }
 
 // NOT

@@ -1,7 +1,7 @@
 // Tests of words: CMP, GREATER, LESS, ISNIL, ISPOS, ISNEG, and what JUMPC asks. An answer that is pushed is 0 or 1.
 ghost use mathlib.Core.Path.{_≡_};
 ghost use lib.Dec.{eqb};
-ghost use Rattle.rules.specs.Words.{bit, holds, less, ordered};
+ghost use Rattle.rules.specs.Words.{bit, holds, less, sense, ordered};
 use crate::integers::signed;
 
 // The result of a test, as a word: 0 or 1.
@@ -41,17 +41,24 @@ pub fn greater(b: u32, t: u32) -> u32
     bit(below(t, b))
 }
 
-// CMP: 1 if Vb < Vt, 0 if equal, -1 if Vb > Vt.
-pub fn ordered(b: u32, t: u32) -> u32
-    ensures { λ r. ⌜ r ≡ ordered b t ⌝ }
+// The answer of CMP and CMPF, from the tests Vb < Vt and Vb > Vt: 1 if Vb < Vt, 0 if equal, -1 if Vb > Vt.
+pub fn sense(less: bool, greater: bool) -> u32
+    ensures { λ r. ⌜ r ≡ sense less greater ⌝ }
 {
-    if below(b, t) {
+    if less {
         return 1;
     }
-    if below(t, b) {
+    if greater {
         return 4294967295;
     }
     0
+}
+
+// CMP
+pub fn ordered(b: u32, t: u32) -> u32
+    ensures { λ r. ⌜ r ≡ ordered b t ⌝ }
+{
+    sense(below(b, t), below(t, b))
 }
 
 // ISNIL: whether all bits are zero.

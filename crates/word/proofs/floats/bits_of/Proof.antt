@@ -1,18 +1,15 @@
+-- `word::floats::bits_of` meets its contract. Assumes nothing.
 use borrow.Author.Needs.{needs}
+use Rattle.word.proofs.Nan.{not-nan, nan-bits}
 use Rattle.word.proofs.floats.bits_of.Statement.{statement}
 use Rattle.word.proofs.floats.bits_of.Tie as tie
-use Rattle.word.proofs.floats.bits_of.Reads as reads
-use Rattle.word.proofs.floats.bits_of.Lts as lts
 
--- src/floats.rt:29:37
 float-to-bits-result : tie.Need-float-to-bits-result
-float-to-bits-result c = ?
+float-to-bits-result c = not-nan (c .before .args .x) (c .if1 .left)
 
--- src/floats.rt:26:1
 returns : tie.Need-returns
-returns c = ?
+returns c = nan-bits (c .before .args .x) (c .if1 .taken)
 
--- src/floats.rt:26:1
 returns-2 : tie.Need-returns-2
 returns-2 c = search needs
 

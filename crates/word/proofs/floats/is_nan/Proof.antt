@@ -1,12 +1,10 @@
+-- `word::floats::is_nan` meets its contract. Assumes nothing.
 use mathlib.Core.Path.{sym, _∙_}
 use lib.Ieee.{binary32}
 use lib.Ieee.Bits.{nanBits-is, nanBits-above}
 use Rattle.word.proofs.floats.is_nan.Statement.{statement}
 use Rattle.word.proofs.floats.is_nan.Tie as tie
-use Rattle.word.proofs.floats.is_nan.Reads as reads
-use Rattle.word.proofs.floats.is_nan.Lts as lts
 
--- src/floats.rt:8:1
 returns : tie.Need-returns
 returns c = sym (nanBits-above binary32 (c .args .b)) ∙ nanBits-is binary32 (c .args .b)
 

@@ -1,25 +1,20 @@
+-- `word::floats::minus_f` meets its contract. Assumes nothing.
 use borrow.Author.Needs.{needs}
+use Rattle.rules.specs.Floats.{minusF, rounded}
 use Rattle.word.proofs.floats.minus_f.Statement.{statement}
 use Rattle.word.proofs.floats.minus_f.Tie as tie
-use Rattle.word.proofs.floats.minus_f.Reads as reads
-use Rattle.word.proofs.floats.minus_f.Lts as lts
-use Rattle.word.proofs.floats.bits_of.Reads as bits-of-reads
-use Rattle.word.proofs.floats.value_of.Reads as value-of-reads
 
--- src/floats.rt:45:9
 value-of-requires : tie.Need-value-of-requires
 value-of-requires c κs = search needs
 
--- src/floats.rt:46:9
 value-of-requires-2 : tie.Need-value-of-requires-2
 value-of-requires-2 c κs = search needs
 
--- src/floats.rt:47:5
 bits-of-requires : tie.Need-bits-of-requires
 bits-of-requires c κs = search needs
 
--- src/floats.rt:42:1
 returns : tie.Need-returns
+unfolding minusF rounded
 returns c = cc
 
 pub minus-f-spec : {M : Type 1} → statement M

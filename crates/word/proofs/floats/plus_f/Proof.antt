@@ -1,25 +1,20 @@
+-- `word::floats::plus_f` meets its contract. Assumes nothing.
 use borrow.Author.Needs.{needs}
+use Rattle.rules.specs.Floats.{plusF, rounded}
 use Rattle.word.proofs.floats.plus_f.Statement.{statement}
 use Rattle.word.proofs.floats.plus_f.Tie as tie
-use Rattle.word.proofs.floats.plus_f.Reads as reads
-use Rattle.word.proofs.floats.plus_f.Lts as lts
-use Rattle.word.proofs.floats.bits_of.Reads as bits-of-reads
-use Rattle.word.proofs.floats.value_of.Reads as value-of-reads
 
--- src/floats.rt:36:9
 value-of-requires : tie.Need-value-of-requires
 value-of-requires c κs = search needs
 
--- src/floats.rt:37:9
 value-of-requires-2 : tie.Need-value-of-requires-2
 value-of-requires-2 c κs = search needs
 
--- src/floats.rt:38:5
 bits-of-requires : tie.Need-bits-of-requires
 bits-of-requires c κs = search needs
 
--- src/floats.rt:33:1
 returns : tie.Need-returns
+unfolding plusF rounded
 returns c = cc
 
 pub plus-f-spec : {M : Type 1} → statement M

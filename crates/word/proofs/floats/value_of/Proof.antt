@@ -1,23 +1,19 @@
+-- `word::floats::value_of` meets its contract. Assumes nothing.
 use borrow.Author.Needs.{needs}
+use mathlib.Core.Path.{sym, _∙_}
+use Rattle.word.proofs.Nan.{no-nan, is-nan, zero-by-zero}
 use Rattle.word.proofs.floats.value_of.Statement.{statement}
 use Rattle.word.proofs.floats.value_of.Tie as tie
-use Rattle.word.proofs.floats.value_of.Reads as reads
-use Rattle.word.proofs.floats.value_of.Lts as lts
-use Rattle.word.proofs.floats.is_nan.Reads as is-nan-reads
 
--- src/floats.rt:18:8
 is-nan-requires : tie.Need-is-nan-requires
 is-nan-requires c κs = search needs
 
--- src/floats.rt:21:9
 float-from-bits-result : tie.Need-float-from-bits-result
-float-from-bits-result c = ?
+float-from-bits-result c = no-nan _ (sym (c .before .is-nan .ensures) ∙ c .if1 .left)
 
--- src/floats.rt:15:1
 returns : tie.Need-returns
-returns c = ?
+returns c = zero-by-zero ∙ sym (is-nan _ (sym (c .before .is-nan .ensures) ∙ c .if1 .taken))
 
--- src/floats.rt:15:1
 returns-2 : tie.Need-returns-2
 returns-2 c = search needs
 

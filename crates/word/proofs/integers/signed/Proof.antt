@@ -1,31 +1,24 @@
+-- `word::integers::signed` meets its contract. Assumes nothing.
 use borrow.Author.Needs.{needs}
 use Rattle.word.proofs.Signed.{read-fits, read-signed}
 use Rattle.word.proofs.integers.signed.Statement.{statement}
 use Rattle.word.proofs.integers.signed.Tie as tie
-use Rattle.word.proofs.integers.signed.Reads as reads
-use Rattle.word.proofs.integers.signed.Lts as lts
 
--- src/integers.rt:10:9
 cast-result : tie.Need-cast-result
 cast-result c = search needs
 
--- src/integers.rt:12:16
 sub-result : tie.Need-sub-result
 sub-result c = search needs
 
--- src/integers.rt:12:15
 cast-result-2 : tie.Need-cast-result-2
 cast-result-2 c = search needs
 
--- src/integers.rt:12:9
 sub-result-2 : tie.Need-sub-result-2
 sub-result-2 c = read-fits (c .before .args .b) (c .if1 .left) (c .before .fits .b .fits)
 
--- src/integers.rt:6:1
 returns : tie.Need-returns
 returns c = search needs
 
--- src/integers.rt:6:1
 returns-2 : tie.Need-returns-2
 returns-2 c = read-signed (c .before .args .b) (c .if1 .left) (c .before .fits .b .fits)
 

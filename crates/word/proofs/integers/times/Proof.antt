@@ -1,39 +1,30 @@
+-- `word::integers::times` meets its contract. Assumes nothing.
 use borrow.Author.Needs.{needs}
 use native.Mathlib.Omega.{arith}
 use Rattle.word.proofs.Halves.{below, product}
 use Rattle.word.proofs.integers.times.Statement.{statement}
 use Rattle.word.proofs.integers.times.Tie as tie
-use Rattle.word.proofs.integers.times.Reads as reads
-use Rattle.word.proofs.integers.times.Lts as lts
-use Rattle.std.proofs.num.wrapping_add_u32.Reads as wrapping-add-u32-reads
 
--- src/integers.rt:49:45
 mul-wrapping-add-u32 : tie.Need-mul-wrapping-add-u32
 mul-wrapping-add-u32 c = record { fits = below 16 (omega arith) (omega arith) }
 
--- src/integers.rt:49:54
 mul-wrapping-add-u32-2 : tie.Need-mul-wrapping-add-u32-2
 mul-wrapping-add-u32-2 c = record { fits = below 16 (omega arith) (omega arith) }
 
--- src/integers.rt:49:9
 wrapping-add-u32-requires : tie.Need-wrapping-add-u32-requires
 wrapping-add-u32-requires c κs = search needs
 
--- src/integers.rt:50:32
 mul-wrapping-add-u32-3 : tie.Need-mul-wrapping-add-u32-3
 mul-wrapping-add-u32-3 c = search needs
 
--- src/integers.rt:50:56
 mul-wrapping-add-u32-4 : tie.Need-mul-wrapping-add-u32-4
 mul-wrapping-add-u32-4 c = record { fits = below 16 (omega arith) (omega arith) }
 
--- src/integers.rt:50:5
 wrapping-add-u32-requires-2 : tie.Need-wrapping-add-u32-requires-2
 wrapping-add-u32-requires-2 c κs = search needs
 
--- src/integers.rt:42:1
 returns : tie.Need-returns
-returns c = 
+returns c =
     let s = c .before .before in
     omega (arith, product (s .args .b) (s .args .t), c .wrapping-add-u322 .ensures, c .before .wrapping-add-u32 .ensures)
 

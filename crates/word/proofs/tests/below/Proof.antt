@@ -1,21 +1,17 @@
+-- `word::tests::below` meets its contract. Assumes nothing.
 use borrow.Author.Needs.{needs}
 use Rattle.word.proofs.Divide.{reads}
 use Rattle.word.proofs.tests.below.Statement.{statement}
 use Rattle.word.proofs.tests.below.Tie as tie
-use Rattle.word.proofs.tests.below.Lts as lts
-use Rattle.word.proofs.integers.signed.Reads as signed-reads
 
--- src/tests.rt:25:9
 signed-requires : tie.Need-signed-requires
 signed-requires c κs = search needs
 
--- src/tests.rt:26:9
 signed-requires-2 : tie.Need-signed-requires-2
 signed-requires-2 c κs = search needs
 
--- src/tests.rt:22:1
 returns : tie.Need-returns
-returns c = 
+returns c =
     let s = c .before .before in
     rw (reads (s .args .b) (s .fits .b) _ (c .before .signed .ensures), reads (s .args .t) (s .fits .t) _ (c .signed2 .ensures))
 
