@@ -17,16 +17,16 @@ mag-neg : (q : ℕ) {a : ℕ} → q ≤ suc a → mag (negℤ (pos q)) ≤ a
 mag-neg zero h = zero-le
 mag-neg (suc q) h = le-of-suc-le-suc h
 
-quot-fits : (x y : ℤ) → mag x < 2147483648 → (y ≡ pos 0 → ⊥) → (x ≡ negsuc 2147483647 → y ≡ negsuc 0 → ⊥) → mag (quotZ x y) < 2147483648
-quot-fits (pos a) (pos b) h nz ne = lt-of-le-of-lt (div-le-self a b) h
-quot-fits (pos a) (negsuc b) h nz ne = lt-of-le-of-lt (mag-neg (a / suc b) (omega (arith, div-le-self a (suc b)))) h
-quot-fits (negsuc a) (pos b) h nz ne = lt-of-le-of-lt (mag-neg (suc a / b) (div-le-self (suc a) b)) h
-quot-fits (negsuc a) (negsuc zero) h nz ne =
+pub quot-fits : (x y : ℤ) → mag x < 2147483648 → (x ≡ negsuc 2147483647 → y ≡ negsuc 0 → ⊥) → mag (quotZ x y) < 2147483648
+quot-fits (pos a) (pos b) h ne = lt-of-le-of-lt (div-le-self a b) h
+quot-fits (pos a) (negsuc b) h ne = lt-of-le-of-lt (mag-neg (a / suc b) (omega (arith, div-le-self a (suc b)))) h
+quot-fits (negsuc a) (pos b) h ne = lt-of-le-of-lt (mag-neg (suc a / b) (div-le-self (suc a) b)) h
+quot-fits (negsuc a) (negsuc zero) h ne =
     let e : suc a / 1 ≡ suc a = div-one (suc a) in
     let n : (a ≡ 2147483647) → ⊥ = λ (p : a ≡ 2147483647). ne (ap negsuc p) refl in
     let l : a < 2147483647 = lt-of-le-ne (omega arith) n in
     omega arith
-quot-fits (negsuc a) (negsuc (suc b)) h nz ne =
+quot-fits (negsuc a) (negsuc (suc b)) h ne =
     let l : suc a / suc (suc b) < suc a = div-lt-self (zero-lt-suc a) (suc-le-suc (suc-le-suc zero-le)) in
     omega arith
 
@@ -49,9 +49,8 @@ module _ (a b : ℕ) (fa : Fits w32 a) (fb : Fits w32 b) (nz : b ≡ 0 → ⊥) 
   fits-here : SFits w32 (quotZ (signed a) (signed b))
   fits-here = record {
     sfits = quot-fits (signed a) (signed b) (sfits-signed a fa x ex .sfits)
-        (λ (p : signed b ≡ pos 0). nz (toZ-inj fb (fits-lit tt) (p)))
         (λ (p : signed a ≡ negsuc 2147483647) (q : signed b ≡ negsuc 0).
-        ne (toZ-inj fa (fits-lit tt) (p)) (toZ-inj fb (fits-lit tt) (q)));
+        ne (toZ-inj fa (fits-lit tt) p) (toZ-inj fb (fits-lit tt) q));
   }
 
   pub divides : (0 < ofZ w32 y) × SFits w32 (quotZ (toZ w32 (ofZ w32 x)) (toZ w32 (ofZ w32 y)))

@@ -4,3 +4,5 @@ pub mod Divide
 pub mod Halves
 pub mod Nan
 pub mod Unlike
+pub mod Modulus
+pub mod Natural

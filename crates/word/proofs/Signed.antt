@@ -29,6 +29,14 @@ word-signed n h = go (ltb n (2 ^ 31)) (ltb→lt n (2 ^ 31)) (nltb→le n (2 ^ 31
     go true k l = omega arith
     go false k l = let p : 2147483648 ≤ n = l tt in omega arith
 
+-- a number of the range is what its word stands for
+pub signed-word : (z : ℤ) → mag z < 2 ^ 31 → signed (word z) ≡ z
+signed-word z h = ap signed (bits-of z h) ∙ toZ-ofZ {w = w32} {z = z} (record { sfits = h })
+  where
+    bits-of : (z : ℤ) → mag z < 2 ^ 31 → word z ≡ ofZ w32 z
+    bits-of (pos n) h = omega arith
+    bits-of (negsuc n) h = omega arith
+
 -- ---- from the bits: -1 - (2 ^ 32 - 1 - n) for an n in the upper half
 module _ (n : ℕ) (h : 2147483648 ≤ n) (l : n < 4294967296) where
   pub read-up : negsuc 0 -ℤ toZ w32 (4294967295 - n) ≡ negsuc (4294967295 - n)
