@@ -1,8 +1,9 @@
--- The laws behind the functions' proofs, and the statements that a reader or a caller wants beside the contracts.
+-- What a reader or a caller wants beside the contracts, and the laws that the functions' proofs share.
 pub mod Signed
-pub mod Divide
-pub mod Halves
-pub mod Nan
-pub mod Unlike
-pub mod Modulus
 pub mod Natural
+pub mod Bitwise
+mod Modulus
+mod Halves
+mod Divide
+mod Unlike
+mod Nan

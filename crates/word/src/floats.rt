@@ -6,14 +6,14 @@ ghost use Rattle.rules.specs.Floats.{plusF, minusF, timesF, quotientF, unordere
 use crate::tests::sense;
 
 // Whether the bits are a NaN's: without the sign, above those of an infinity.
-pub fn is_nan(b: u32) -> bool
+pub(crate) fn is_nan(b: u32) -> bool
     ensures { λ r. ⌜ r ≡ isNan (ofBits binary32 b) ⌝ }
 {
     b % 2147483648 > 2139095040
 }
 
 // The value that the bits stand for.
-pub fn value_of(b: u32) -> f32
+pub(crate) fn value_of(b: u32) -> f32
     ensures { λ r. ⌜ r ≡ ofBits binary32 b ⌝ }
 {
     if is_nan(b) {
@@ -24,7 +24,7 @@ pub fn value_of(b: u32) -> f32
 }
 
 // The bits of a value, #7FC00000 of a NaN.
-pub fn bits_of(x: f32) -> u32
+pub(crate) fn bits_of(x: f32) -> u32
     ensures { λ r. ⌜ r ≡ toBits binary32 x ⌝ }
 {
     if x != x { 2143289344 } else { f32::to_bits(x) }

@@ -14,7 +14,7 @@ pub fn signed(b: u32) -> i32
 }
 
 // The word of a number.
-pub fn word(z: i32) -> u32
+pub(crate) fn word(z: i32) -> u32
     ensures { λ r. ⌜ r ≡ word z ⌝ }
 {
     if z >= 0 {
