@@ -15,7 +15,7 @@ sense-requires c κs = search needs
 
 returns : tie.Need-returns
 unfolding orderedF
-returns c = cc
+returns c = rw (c .sense .ensures, c .before .before .value-of .ensures, c .before .value-of2 .ensures)
 
 pub ordered-f-spec : {M : Type 1} → statement M
 ordered-f-spec = tie.close (tie.spec value-of-requires value-of-requires-2 sense-requires returns)

@@ -15,7 +15,7 @@ bits-of-requires c κs = search needs
 
 returns : tie.Need-returns
 unfolding quotientF rounded
-returns c = cc
+returns c = rw (c .bits-of .ensures, c .before .before .value-of .ensures, c .before .value-of2 .ensures)
 
 pub quotient-f-spec : {M : Type 1} → statement M
 quotient-f-spec =

@@ -15,7 +15,7 @@ bits-of-requires c κs = search needs
 
 returns : tie.Need-returns
 unfolding timesF rounded
-returns c = cc
+returns c = rw (c .bits-of .ensures, c .before .before .value-of .ensures, c .before .value-of2 .ensures)
 
 pub times-f-spec : {M : Type 1} → statement M
 times-f-spec = tie.close (tie.spec value-of-requires value-of-requires-2 bits-of-requires returns)

@@ -12,7 +12,7 @@ is-nan-requires-2 c κs = search needs
 
 returns : tie.Need-returns
 unfolding unordered
-returns c = cc
+returns c = rw (c .before .is-nan .ensures, c .is-nan2 .ensures)
 
 pub unordered-spec : {M : Type 1} → statement M
 unordered-spec = tie.close (tie.spec is-nan-requires is-nan-requires-2 returns)

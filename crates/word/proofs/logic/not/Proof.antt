@@ -10,7 +10,7 @@ bit-requires : tie.Need-bit-requires
 bit-requires c κs = search needs
 
 returns : tie.Need-returns
-returns c = cc
+returns c = rw (c .bit .ensures, c .before .holds .ensures)
 
 pub not-spec : {M : Type 1} → statement M
 not-spec = tie.close (tie.spec holds-requires bit-requires returns)

@@ -13,7 +13,7 @@ bit-requires : tie.Need-bit-requires
 bit-requires c κs = search needs
 
 returns : tie.Need-returns
-returns c = cc
+returns c = rw (c .bit .ensures, c .before .before .holds .ensures, c .before .holds2 .ensures)
 
 pub or-spec : {M : Type 1} → statement M
 or-spec = tie.close (tie.spec holds-requires holds-requires-2 bit-requires returns)

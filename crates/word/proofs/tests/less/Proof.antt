@@ -10,7 +10,7 @@ bit-requires : tie.Need-bit-requires
 bit-requires c κs = search needs
 
 returns : tie.Need-returns
-returns c = cc
+returns c = rw (c .bit .ensures, c .before .below .ensures)
 
 pub less-spec : {M : Type 1} → statement M
 less-spec = tie.close (tie.spec below-requires bit-requires returns)

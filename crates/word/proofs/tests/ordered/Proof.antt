@@ -13,7 +13,7 @@ sense-requires : tie.Need-sense-requires
 sense-requires c κs = search needs
 
 returns : tie.Need-returns
-returns c = cc
+returns c = rw (c .sense .ensures, c .before .before .below .ensures, c .before .below2 .ensures)
 
 pub ordered-spec : {M : Type 1} → statement M
 ordered-spec = tie.close (tie.spec below-requires below-requires-2 sense-requires returns)
