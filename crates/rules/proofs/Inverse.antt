@@ -20,7 +20,7 @@ use Rattle.rules.specs.Back.{topPlace, formedCell, formedCells, formedSt
 use Rattle.rules.specs.declared.Registers.{Registers}
 use Rattle.rules.specs.declared.Effect.{Effect}
 use Rattle.rules.specs.declared.Decision.the-variants.{Does}
-use Rattle.rules.specs.declared.MachineRefusal.the-variants.{NoHistory, Broken}
+use Rattle.rules.specs.declared.MachineRefusal.the-variants.{Broken}
 use Rattle.rules.specs.declared.Step.the-variants.{Next}
 use Rattle.rules.proofs.Places.{cellAddress-of, cellTag-of, cellBits-of, cellMark-of, cellZeros-of, stepPc-of, stepSp-of, stepFbr-of, stepCount-of, stepMark-of, stepZeros-of}
 use Rattle.rules.proofs.Splice.{length-part, drop-splice, rest-splice, length-splice, splice-back, sets-splice}
@@ -42,10 +42,10 @@ drop-zeros (suc n) (suc k) = drop-zeros n k ∙ ap (λ (j : ℕ). replicate j 0)
 
 -- ---- cells that a place can keep: sound ones of 32 bits
 
-pub record Keepable (count t b : ℕ) : Type 0 where
-  pub tag : t < 2 ^ 2
-  pub bits : b < 2 ^ 32
-  pub pa : t ≡ PA → b ≤ count
+record Keepable (count t b : ℕ) : Type 0 where
+  tag : t < 2 ^ 2
+  bits : b < 2 ^ 32
+  pa : t ≡ PA → b ≤ count
 
 keepable-zero : (count : ℕ) → Keepable count 0 0
 keepable-zero count = record { tag = lit< tt; bits = lit< tt; pa = λ q. zero-le }
@@ -211,7 +211,7 @@ module _ (p : Program) (r : Registers) (m : Memory) (e : Effect) (s : Sound p r 
   count-is = ap stepCount top-is ∙ stepCount-of (r .pc) (r .sp) (r .fbr) (e .count) hp hs hf hc
 
   -- the record is well formed
-  pub formed-kept : formedTop p (registersKept r e) (memoryKept r m e) ≡ true
+  formed-kept : formedTop p (registersKept r e) (memoryKept r m e) ≡ true
   formed-kept =
       let top : ℕ = topPlace (registersKept r e) (memoryKept r m e) in
       ap₂ _&&_
@@ -267,13 +267,9 @@ module _ (p : Program) (r : Registers) (m : Memory) (e : Effect) (s : Sound p r 
         };
       })
 
-  pub back-kept : r .halt ≡ 0 → Blank r m → plainBack p (registersKept r e) (memoryKept r m e) ≡ record { answer = Next r; memory = m }
+  back-kept : r .halt ≡ 0 → Blank r m → plainBack p (registersKept r e) (memoryKept r m e) ≡ record { answer = Next r; memory = m }
   unfolding plainBack
-  back-kept running blank =
-      ap (λ (b : Bool). cond b (unchanged (memoryKept r m e) NoHistory) (cond (formedTop p (registersKept r e) (memoryKept r m e)) (undone (registersKept r e) (memoryKept r m e)) (unchanged (memoryKept r m e) Broken)))
-      (ne-eqb (r .used + (e .count + 1)) 0 (λ z. omega (arith, z)))
-      ∙ ap (λ (b : Bool). cond b (undone (registersKept r e) (memoryKept r m e)) (unchanged (memoryKept r m e) Broken)) formed-kept
-      ∙ undone-kept running blank
+  back-kept running blank = rw (ne-eqb (r .used + (e .count + 1)) 0 (λ z. omega (arith, z)), formed-kept) (undone-kept running blank)
 
 -- ---- with a history, a record is kept
 module _ (r : Registers) (e : Effect) (some : 0 < r .h) where
@@ -281,12 +277,10 @@ module _ (r : Registers) (e : Effect) (some : 0 < r .h) where
   keeps-is = lt-ltb 0 (r .h) some
 
   registers-kept : registersOf r e ≡ registersKept r e
-  registers-kept =
-      ap (λ (b : Bool). record { n = r .n; h = r .h; pc = e .pc; sp = e .sp; fbr = e .fbr; halt = e .halt; used = usedAfter b (r .used) (e .count + 1) }) keeps-is
+  registers-kept = rw keeps-is refl
 
   memory-kept : (m : Memory) → memoryOf r m e ≡ memoryKept r m e
-  memory-kept m =
-      ap (λ (b : Bool). record { bits = memoryKept r m e .bits; tags = memoryKept r m e .tags; history = historyAfter b (m .history) (r .used) (recordOf r m e) }) keeps-is
+  memory-kept m = rw keeps-is refl
 
   room-kept : r .used ≤ r .h → roomFor r e ≡ true → r .used + (e .count + 1) ≤ r .h
   room-kept low q =

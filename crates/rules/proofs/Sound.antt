@@ -116,7 +116,21 @@ cells-sound count (t ∷ ts) (b ∷ bs) f = ap₂ _&&_ (cell-sound count (record
 pub facts-sound : (p : Program) (r : Registers) (m : Memory) → Sound p r m → sound p r m ≡ true
 unfolding sound
 facts-sound p r m s =
-    simp (s .table, le-leb _ _ (s .some), le-leb _ _ (s .few), le-leb _ _ (s .short), eq-eqb _ _ (s .bits), eq-eqb _ _ (s .tags), eq-eqb _ _ (s .history), lt-ltb _ _ (s .sp), lt-ltb _ _ (s .fbr), le-leb _ _ (s .pc), le-leb _ _ (s .halt), le-leb _ _ (s .used), cells-sound (p .count) (m .tags) (m .bits) (s .cells))
+    simp (
+      s .table,
+      le-leb _ _ (s .some),
+      le-leb _ _ (s .few),
+      le-leb _ _ (s .short),
+      eq-eqb _ _ (s .bits),
+      eq-eqb _ _ (s .tags),
+      eq-eqb _ _ (s .history),
+      lt-ltb _ _ (s .sp),
+      lt-ltb _ _ (s .fbr),
+      le-leb _ _ (s .pc),
+      le-leb _ _ (s .halt),
+      le-leb _ _ (s .used),
+      cells-sound (p .count) (m .tags) (m .bits) (s .cells),
+    )
 
 -- ---- the history after, with a record or without
 module _ (u n h : ℕ) (low : u ≤ h) where
