@@ -54,7 +54,8 @@ def full_program(chooser):
 
 
 def any_place(chooser):
-    return chooser.randrange(64) << 32 | chooser.choice([0, 1, 999, 1000, WORD - 999, WORD - 1000, chooser.randrange(WORD)])
+    operand = chooser.choice([0, 1, 999, 1000, WORD - 999, WORD - 1000, chooser.randrange(WORD)])
+    return chooser.randrange(64) << 32 | operand
 
 
 def damaged_program(chooser, program):

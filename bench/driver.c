@@ -76,7 +76,9 @@ static void read_bytes(struct lent *lent) {
     const char *word = next_word();
     size_t count = word[0] == '-' ? 0 : strlen(word) / 2;
     lend(lent, count);
-    for (size_t i = 0; i < count; i++) set(lent, i, (uint64_t)(hex_digit(word[2 * i]) * 16 + hex_digit(word[2 * i + 1])));
+    for (size_t i = 0; i < count; i++) {
+        set(lent, i, (uint64_t)(hex_digit(word[2 * i]) * 16 + hex_digit(word[2 * i + 1])));
+    }
 }
 
 /* The next item of a list, `value` or `value*count`; false at the list's end. */

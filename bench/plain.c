@@ -125,11 +125,12 @@ static inline uint32_t fill(const struct machine *m, struct effect *e, uint64_t 
 }
 
 /* The refusal 3 to 6 of the instruction (and 7 of ADDSP), or 0 with its effect. */
-#define NEED(count) if (m->sp < (count)) return 3
+#define ONE if (m->sp < 1) return 3; vt = cell_at(m, m->sp - 1)
+#define TWO if (m->sp < 2) return 3; vb = cell_at(m, m->sp - 2); vt = cell_at(m, m->sp - 1)
 #define TAKE(condition) if (!(condition)) return 4
-#define ONE_INT NEED(1); TAKE(vt.tag == SAM_INT)
-#define TWO_INTS NEED(2); TAKE(vb.tag == SAM_INT && vt.tag == SAM_INT)
-#define TWO_FLOATS NEED(2); TAKE(vb.tag == SAM_FLOAT && vt.tag == SAM_FLOAT)
+#define ONE_INT ONE; TAKE(vt.tag == SAM_INT)
+#define TWO_INTS TWO; TAKE(vb.tag == SAM_INT && vt.tag == SAM_INT)
+#define TWO_FLOATS TWO; TAKE(vb.tag == SAM_FLOAT && vt.tag == SAM_FLOAT)
 #define RESULT_OF_ONE(cell) return write_one(e, m->sp - 1, (cell), m->sp)
 #define RESULT_OF_TWO(cell) return write_one(e, m->sp - 2, (cell), m->sp - 1)
 
@@ -137,8 +138,7 @@ static inline uint32_t decide(const struct machine *m, struct effect *e) {
     uint64_t place = m->table[m->pc];
     uint32_t operand = (uint32_t)place;
     int64_t number = (int32_t)operand, at;
-    struct cell vt = m->sp >= 1 ? cell_at(m, m->sp - 1) : integer(0);
-    struct cell vb = m->sp >= 2 ? cell_at(m, m->sp - 2) : integer(0);
+    struct cell vt, vb;
     e->pc = m->pc + 1;
     e->sp = m->sp;
     e->fbr = m->fbr;
@@ -149,19 +149,19 @@ static inline uint32_t decide(const struct machine *m, struct effect *e) {
     case PUSHIMM: return push(m, e, integer(operand));
     case PUSHIMMF: return push(m, e, (struct cell){operand, SAM_FLOAT});
     case PUSHIMMPA: return push(m, e, program_address(operand));
-    case DUP: NEED(1); return push(m, e, vt);
+    case DUP: ONE; return push(m, e, vt);
     case SWAP:
-        NEED(2);
+        TWO;
         e->at = m->sp - 2;
         e->count = 2;
         e->first = vt;
         e->second = vb;
         return 0;
     case ADD:
-        NEED(2); TAKE(vt.tag == SAM_INT && (vb.tag == SAM_INT || vb.tag == SAM_MA));
+        TWO; TAKE(vt.tag == SAM_INT && (vb.tag == SAM_INT || vb.tag == SAM_MA));
         RESULT_OF_TWO(((struct cell){vb.bits + vt.bits, vb.tag}));
     case SUB:
-        NEED(2); TAKE(vt.tag == SAM_INT && (vb.tag == SAM_INT || vb.tag == SAM_MA));
+        TWO; TAKE(vt.tag == SAM_INT && (vb.tag == SAM_INT || vb.tag == SAM_MA));
         RESULT_OF_TWO(((struct cell){vb.bits - vt.bits, vb.tag}));
     case TIMES: TWO_INTS; RESULT_OF_TWO(integer(vb.bits * vt.bits));
     case DIV: TWO_INTS; if (vt.bits == 0) return 5; RESULT_OF_TWO(integer(divided(vb.bits, vt.bits)));
@@ -193,32 +193,32 @@ static inline uint32_t decide(const struct machine *m, struct effect *e) {
     }
     case GREATER: TWO_INTS; RESULT_OF_TWO(integer((int32_t)vb.bits > (int32_t)vt.bits));
     case LESS: TWO_INTS; RESULT_OF_TWO(integer((int32_t)vb.bits < (int32_t)vt.bits));
-    case EQUAL: NEED(2); RESULT_OF_TWO(integer(vb.bits == vt.bits && vb.tag == vt.tag));
-    case ISNIL: NEED(1); RESULT_OF_ONE(integer(vt.bits == 0));
+    case EQUAL: TWO; RESULT_OF_TWO(integer(vb.bits == vt.bits && vb.tag == vt.tag));
+    case ISNIL: ONE; RESULT_OF_ONE(integer(vt.bits == 0));
     case ISPOS: ONE_INT; RESULT_OF_ONE(integer((int32_t)vt.bits > 0));
     case ISNEG: ONE_INT; RESULT_OF_ONE(integer((int32_t)vt.bits < 0));
     case PUSHSP: return push(m, e, address(m->sp));
     case PUSHFBR: return push(m, e, address(m->fbr));
     case LINK: e->fbr = m->sp; return push(m, e, address(m->fbr));
     case POPFBR:
-        NEED(1); TAKE(vt.tag == SAM_MA);
+        ONE; TAKE(vt.tag == SAM_MA);
         if (vt.bits >= m->n) return 6; /* a negative number is above every N */
         e->fbr = vt.bits;
         e->sp = m->sp - 1;
         return 0;
     case POPSP:
-        NEED(1); TAKE(vt.tag == SAM_MA);
+        ONE; TAKE(vt.tag == SAM_MA);
         if (vt.bits >= m->n) return 6;
         return fill(m, e, m->sp - 1, vt.bits);
     case ADDSP:
         if ((int64_t)m->sp + number < 0) return 3;
         return fill(m, e, m->sp, (uint64_t)((int64_t)m->sp + number));
     case PUSHIND:
-        NEED(1); TAKE(vt.tag == SAM_MA);
+        ONE; TAKE(vt.tag == SAM_MA);
         if (vt.bits >= m->sp - 1) return 6;
         RESULT_OF_ONE(cell_at(m, vt.bits));
     case STOREIND:
-        NEED(2); TAKE(vb.tag == SAM_MA);
+        TWO; TAKE(vb.tag == SAM_MA);
         if (vb.bits >= m->sp - 2) return 6;
         return write_one(e, vb.bits, vt, m->sp - 2);
     case PUSHOFF:
@@ -226,15 +226,15 @@ static inline uint32_t decide(const struct machine *m, struct effect *e) {
         if (at < 0 || at >= (int64_t)m->sp) return 6;
         return push(m, e, cell_at(m, (uint64_t)at));
     case STOREOFF:
-        NEED(1);
+        ONE;
         at = (int64_t)m->fbr + number;
         if (at < 0 || at >= (int64_t)m->sp - 1) return 6;
         return write_one(e, (uint64_t)at, vt, m->sp - 1);
     case JUMP: e->pc = operand; return 0;
     case JUMPC: ONE_INT; e->sp = m->sp - 1; if (vt.bits) e->pc = operand; return 0;
-    case JUMPIND: NEED(1); TAKE(vt.tag == SAM_PA); e->sp = m->sp - 1; e->pc = vt.bits; return 0;
+    case JUMPIND: ONE; TAKE(vt.tag == SAM_PA); e->sp = m->sp - 1; e->pc = vt.bits; return 0;
     case JSR: e->pc = operand; return push(m, e, program_address(m->pc + 1));
-    case JSRIND: NEED(1); TAKE(vt.tag == SAM_PA); e->pc = vt.bits; RESULT_OF_ONE(program_address(m->pc + 1));
+    case JSRIND: ONE; TAKE(vt.tag == SAM_PA); e->pc = vt.bits; RESULT_OF_ONE(program_address(m->pc + 1));
     case CODES: break;
     }
     return 10;

@@ -14,7 +14,9 @@ FLOAT_EDGES = [
     0x7F800000, 0xFF800000, 0x7FC00000, 0x7F800001, 0xFFFFFFFF,
 ]  # fmt: skip
 
-TWO_INTEGERS = """ADD SUB TIMES DIV MOD AND OR NAND NOR XOR BITAND BITOR BITNAND BITNOR BITXOR CMP GREATER LESS""".split()
+TWO_INTEGERS = """
+    ADD SUB TIMES DIV MOD AND OR NAND NOR XOR BITAND BITOR BITNAND BITNOR BITXOR CMP GREATER LESS
+""".split()
 ONE_INTEGER = ["NOT", "BITNOT", "ISPOS", "ISNEG"]
 TWO_FLOATS = ["ADDF", "SUBF", "TIMESF", "DIVF"]
 
@@ -185,7 +187,8 @@ class Builder:
             chooser.choice([self.store_top, self.move_sp, self.work])()
         else:
             most = [self.push_something] * 6 + [self.work] * 10
-            chooser.choice(most + [self.swap, self.copy_up, self.store_top, self.move_sp, self.loop, self.branch, self.call])()
+            some = [self.swap, self.copy_up, self.store_top, self.move_sp, self.loop, self.branch, self.call]
+            chooser.choice(most + some)()
 
     def source(self, pieces):
         for _ in range(pieces):

@@ -5,9 +5,9 @@ from programs import any_program
 GOOD_TOKENS = ["STOP", "ADD", "PUSHIMM 5", "PUSHIMM -2147483648", "PUSHIMMF #7fC0abcd", "ADDSP -999", "PUSHOFF 999",
                "JUMP 0", "JUMP -0", "JUMPC a", "a:", "b:", "JSR b", "PUSHIMMPA end", "end:", "ADD:", "JUMP ADD",
                "//", "// any @ bytes\n", "\n", "\t", "\r", "JUMP 0000000001", "PUSHIMM 0000000001"]  # fmt: skip
-ODD_TOKENS = ["FOO", "stop", "5", "-", "#", ":", "::", "_a", "a-b", "5:", "a::", "/", "a/b", "@", "\x00", "\xff", "PUSHIMM",
-              "PUSHIMM x", "PUSHIMM 5:", "PUSHIMM 2147483648", "PUSHIMM 00000000001", "PUSHIMM -", "PUSHIMM - 5",
-              "PUSHIMMF #123", "PUSHIMMF #1234567G", "PUSHIMMF 5", "ADDSP 1000", "STOREOFF -1000", "JUMP 99", "JUMP -1",
+ODD_TOKENS = ["FOO", "stop", "5", "-", "#", ":", "::", "_a", "a-b", "5:", "a::", "/", "a/b", "@", "\x00", "\xff",
+              "PUSHIMM", "PUSHIMM x", "PUSHIMM 5:", "PUSHIMM 2147483648", "PUSHIMM 00000000001", "PUSHIMM -",
+              "PUSHIMM - 5", "PUSHIMMF #123", "PUSHIMMF #1234567G", "PUSHIMMF 5", "ADDSP 1000", "STOREOFF -1000", "JUMP 99", "JUMP -1",
               "JUMP 12345678901", "JUMP #00000000", "JUMP missing", "JUMP a:", "JUMP " + "x" * 33, "x" * 33 + ":",
               "x" * 32 + ":", "JUMP", "STOP//", "ADD/STOP", "a:STOP", "a:b:", "PUSHIMM 5//5"]  # fmt: skip
 
@@ -15,7 +15,8 @@ ODD_TOKENS = ["FOO", "stop", "5", "-", "#", ":", "::", "_a", "a-b", "5:", "a::",
 def token_source(chooser):
     """Tokens side by side, most of them good."""
     odd = chooser.choice([0.0, 0.05, 0.3])
-    words = [chooser.choice(ODD_TOKENS if chooser.random() < odd else GOOD_TOKENS) for _ in range(chooser.randrange(1, 25))]
+    bags = [ODD_TOKENS if chooser.random() < odd else GOOD_TOKENS for _ in range(chooser.randrange(1, 25))]
+    words = [chooser.choice(bag) for bag in bags]
     return chooser.choice([" ", "\n", "  ", " \r\n"]).join(words).encode("latin-1")
 
 

@@ -364,7 +364,8 @@ class Steps(unittest.TestCase):
 
     def test_reset_sizes(self):
         made = program("STOP")
-        for n, tags, h, number in [(0, 0, 0, 11), (1001, 1001, 0, 11), (5, 4, 0, 11), (5, 5, 8193, 11), (1, 1, 8192, 0)]:
+        refused = [(0, 0, 0, 11), (1001, 1001, 0, 11), (5, 4, 0, 11), (5, 5, 8193, 11)]
+        for n, tags, h, number in refused + [(1, 1, 8192, 0)]:
             state = sam.State(bits=[9] * n, tags=[9] * tags, history=[9] * h)
             self.assertEqual(sam.reset(made, state), number)
             if number:
@@ -394,7 +395,8 @@ class Soundness(unittest.TestCase):
         return number
 
     def test_registers(self):
-        for name, value in [("n", 3), ("n", 5), ("h", 7), ("h", 9), ("sp", 4), ("fbr", 4), ("pc", 5), ("halt", 2), ("used", 9)]:
+        wrong = [("n", 3), ("n", 5), ("h", 7), ("h", 9), ("sp", 4), ("fbr", 4), ("pc", 5), ("halt", 2), ("used", 9)]
+        for name, value in wrong:
             self.assertEqual(self.broken(**{name: value}), 10, name)
         self.assertEqual(self.broken(halt=1), 0)
         self.assertEqual(self.broken(tags=(3, 4)), 10)

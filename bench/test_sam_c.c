@@ -51,7 +51,8 @@ static uint32_t step_back(void) {
 }
 
 static uint32_t run(uint64_t limit) {
-    return sam_run(table, SAM_TABLE_PLACES, length, limit, registers, SAM_REGISTERS, bits, n, tags, n, history, h, told, 1);
+    return sam_run(table, SAM_TABLE_PLACES, length, limit, registers, SAM_REGISTERS, bits, n, tags, n, history, h, told,
+                   1);
 }
 
 static void begin(const char *source, size_t cells, size_t places) {
@@ -90,6 +91,11 @@ static void test_complaint(void) {
 
 /* ---- told and registers of another length */
 
+static uint32_t run_with(size_t registers_len, size_t told_len) {
+    return sam_run(table, SAM_TABLE_PLACES, length, 9, registers, registers_len, bits, n, tags, n, history, h, told,
+                   told_len);
+}
+
 static void test_lengths(void) {
     const uint8_t *stop = (const uint8_t *)"STOP";
     puts("told and registers of another length change nothing");
@@ -99,15 +105,15 @@ static void test_lengths(void) {
     check("  list", 31, sam_list(table, SAM_TABLE_PLACES, length, text, SAM_TEXT_BYTES, told, 0));
     check("  pack", 31, sam_pack(table, SAM_TABLE_PLACES, length, image, SAM_IMAGE_BYTES, told, 2));
     check("  unpack", 31, sam_unpack(stop, 4, table, SAM_TABLE_PLACES, told, 2));
-    check("  run", 31, sam_run(table, SAM_TABLE_PLACES, length, 9, registers, SAM_REGISTERS, bits, n, tags, n, history, h, told, 2));
+    check("  run", 31, run_with(SAM_REGISTERS, 2));
     check("  told[0]", 77, told[0]);
     check("  told[1]", 77, told[1]);
     check("  table[0]", UINT64_C(1) << 32 | 1, table[0]);
     registers[SAM_N] = 3;
     check("  reset", 10, sam_reset(table, SAM_TABLE_PLACES, length, registers, 6, bits, n, tags, n, history, h));
     check("  step", 10, sam_step(table, SAM_TABLE_PLACES, length, registers, 8, bits, n, tags, n, history, h));
-    check("  step-back", 10, sam_step_back(table, SAM_TABLE_PLACES, length, registers, 0, bits, n, tags, n, history, h));
-    check("  run", 10, sam_run(table, SAM_TABLE_PLACES, length, 9, registers, 6, bits, n, tags, n, history, h, told, 1));
+    check("  back", 10, sam_step_back(table, SAM_TABLE_PLACES, length, registers, 0, bits, n, tags, n, history, h));
+    check("  run", 10, run_with(6, 1));
     check("  N", 3, registers[SAM_N]);
     check("  PC", 0, registers[SAM_PC]);
 }
@@ -143,6 +149,10 @@ static void test_steps(void) {
     check("  steps", 0, told[0]);
 }
 
+static uint32_t reset_with(size_t places, size_t cells, size_t tag_count) {
+    return sam_reset(table, places, length, registers, SAM_REGISTERS, bits, cells, tags, tag_count, history, 0);
+}
+
 static void test_reset(void) {
     puts("reset: sizes");
     check("  assemble", 0, assemble("STOP"));
@@ -151,11 +161,11 @@ static void test_reset(void) {
     check("  1,001 cells", 11, reset(1001, 0));
     check("  8,193 places", 11, reset(1, 8193));
     registers[SAM_N] = 9;
-    check("  one tag too few", 11, sam_reset(table, SAM_TABLE_PLACES, length, registers, SAM_REGISTERS, bits, 4, tags, 3, history, 0));
+    check("  one tag too few", 11, reset_with(SAM_TABLE_PLACES, 4, 3));
     check("  N", 0, registers[SAM_N]);
     check("  cell 0", 5, bits[0]);
-    check("  11 before 10", 11, sam_reset(table, 0, length, registers, SAM_REGISTERS, bits, 0, tags, 0, history, 0));
-    check("  no table", 10, sam_reset(table, 0, length, registers, SAM_REGISTERS, bits, 4, tags, 4, history, 0));
+    check("  11 before 10", 11, reset_with(0, 0, 0));
+    check("  no table", 10, reset_with(0, 4, 4));
     check("  largest", 0, reset(1000, 8192));
     check("  N", 1000, registers[SAM_N]);
     check("  H", 8192, registers[SAM_H_PLACES]);
