@@ -1,7 +1,7 @@
 #!/usr/bin/env python3
 """Compares every call of the C library, and the console program, with the interpreter in sam/, byte for byte.
 
-    compare.py [--seed S] [--cases C] [--only FAMILY,..] [--console COMMAND] DRIVER
+    compare.py [--seed S] [--cases C] [--only FAMILY,..] [--console COMMAND] [--save FILE] DRIVER
 
 DRIVER and COMMAND are commands: a program, or an emulator and a program. Exit status 1 where anything differs or a
 number of document 01 was never given back.
@@ -61,14 +61,22 @@ def report(title, setting, expected, answered):
 
 
 def setting_of(lines, index):
-    """The lines since the last `program`, which made the state of this call."""
+    """The lines that lead to this call: since the last `program`, which begins a machine, or the call alone."""
     start = index
-    while start > 0 and not lines[start][0].startswith("program "):
-        start -= 1
-    return [line for line, _ in lines[max(start, index - 12) : index + 1]]
+    if not lines[index][0].startswith(("assemble ", "unpack ")):
+        while start > 0 and not lines[start][0].startswith("program "):
+            start -= 1
+    return [line for line, _ in lines[start : index + 1]]
 
 
-def compare_driver(command, script):
+def save(path, setting):
+    """The lines whole, to give to the driver again."""
+    with open(path, "w", encoding="ascii") as file:
+        file.writelines(line + "\n" for line in setting)
+    print(f"  these lines, whole: {path}")
+
+
+def compare_driver(command, script, path):
     text = "".join(line + "\n" for line, _ in script.lines).encode()
     output, status = ask(command, text)
     answers = iter(output.decode().splitlines())
@@ -77,7 +85,10 @@ def compare_driver(command, script):
             continue
         answered = next(answers, f"(nothing: the driver ended with status {status})")
         if answered != expected:
-            report(line.split(" ", 1)[0], setting_of(script.lines, index), expected, answered)
+            setting = setting_of(script.lines, index)
+            report(line.split(" ", 1)[0], setting, expected, answered)
+            if path:
+                save(path, setting)
             return False
     if status != 0:
         print(f"DIFFERENT: the driver ended with status {status}")
@@ -114,10 +125,11 @@ def main():
     parser.add_argument("--only", default=",".join(FAMILIES), help="families of cases: " + ", ".join(FAMILIES))
     parser.add_argument("--console", help="the console program, compared as well")
     parser.add_argument("--sources", type=int, default=200, help="sources for the console")
+    parser.add_argument("--save", help="a file for the driver's lines that led to the first difference")
     words = parser.parse_args()
     families = words.only.split(",")
     script = make_script(words.seed, words.cases, families)
-    alike = compare_driver(words.driver, script)
+    alike = compare_driver(words.driver, script, words.save)
     if alike:
         print_summary(script, words.seed, words.cases)
     missing = [number for number in ALL_NUMBERS if number not in script.numbers]

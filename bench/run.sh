@@ -36,9 +36,9 @@ tail -n 1 "$out/test_sam_c.out"
 echo "bench: every call compared"
 $CC $FLAGS -Iinclude -Ibench bench/driver.c bench/plain.c "$library" -o "$out/driver"
 if [ -x "$console" ]; then
-    python3 bench/compare.py --console "$RUN_KIT $console" "$RUN $out/driver"
+    python3 bench/compare.py --save "$out/difference" --console "$RUN_KIT $console" "$RUN $out/driver"
 else
     echo "bench: no $console, so the console program is not compared"
-    python3 bench/compare.py "$RUN $out/driver"
+    python3 bench/compare.py --save "$out/difference" "$RUN $out/driver"
 fi
 echo "bench: done"

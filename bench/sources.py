@@ -7,7 +7,8 @@ GOOD_TOKENS = ["STOP", "ADD", "PUSHIMM 5", "PUSHIMM -2147483648", "PUSHIMMF #7fC
                "//", "// any @ bytes\n", "\n", "\t", "\r", "JUMP 0000000001", "PUSHIMM 0000000001"]  # fmt: skip
 ODD_TOKENS = ["FOO", "stop", "5", "-", "#", ":", "::", "_a", "a-b", "5:", "a::", "/", "a/b", "@", "\x00", "\xff",
               "PUSHIMM", "PUSHIMM x", "PUSHIMM 5:", "PUSHIMM 2147483648", "PUSHIMM 00000000001", "PUSHIMM -",
-              "PUSHIMM - 5", "PUSHIMMF #123", "PUSHIMMF #1234567G", "PUSHIMMF 5", "ADDSP 1000", "STOREOFF -1000", "JUMP 99", "JUMP -1",
+              "PUSHIMM - 5", "PUSHIMMF #123", "PUSHIMMF #1234567G", "PUSHIMMF 5", "ADDSP 1000", "STOREOFF -1000",
+              "JUMP 99", "JUMP -1",
               "JUMP 12345678901", "JUMP #00000000", "JUMP missing", "JUMP a:", "JUMP " + "x" * 33, "x" * 33 + ":",
               "x" * 32 + ":", "JUMP", "STOP//", "ADD/STOP", "a:STOP", "a:b:", "PUSHIMM 5//5"]  # fmt: skip
 
