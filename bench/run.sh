@@ -1,6 +1,7 @@
 #!/bin/sh
-# Every test and comparison of bench/. The C parts need target/staticlib/libsam_c.a (`rt staticlib sam_c`) and a C
-# compiler for x86-64; where one is missing they are skipped, and the last line says so.
+# Every test and comparison of bench/: bench/run.sh [--all]. The C parts need target/staticlib/libsam_c.a
+# (`rt staticlib sam_c`) and a C compiler for x86-64; where one is missing they are skipped, and the last line says so.
+# With --all a part that cannot be run is a failure.
 set -eu
 cd "$(dirname "$0")/.."
 . bench/toolchain.sh
@@ -8,6 +9,8 @@ library=target/staticlib/libsam_c.a
 console=target/bin/sam
 out=target/bench
 mkdir -p "$out"
+skipped=0
+[ "${1:-}" != --all ] || skipped=1 # the status where a part is skipped
 
 echo "bench: the interpreter's own tests"
 python3 bench/test_sam.py
@@ -21,11 +24,11 @@ fi
 
 if [ -z "$CC" ]; then
     echo "bench: done, but the C parts are skipped: $WHY"
-    exit 0
+    exit "$skipped"
 fi
 if [ ! -f "$library" ]; then
     echo "bench: done, but the C parts are skipped: no $library; make it with: rt staticlib sam_c"
-    exit 0
+    exit "$skipped"
 fi
 
 echo "bench: the C library's own test"
@@ -40,5 +43,6 @@ if [ -x "$console" ]; then
 else
     echo "bench: no $console, so the console program is not compared"
     python3 bench/compare.py --save "$out/difference" "$RUN $out/driver"
+    exit "$skipped"
 fi
 echo "bench: done"

@@ -45,7 +45,7 @@ find_emulated() {
     RUN=$(first_command ${SAM_EMULATOR:-} ${tools:+"$tools/bin/qemu-x86_64"} qemu-x86_64-static qemu-x86_64) ||
         { CC=; WHY="there is no emulator for x86-64"; return; }
     FLAGS="$FLAGS -static"
-    RUN_KIT="$RUN $tools/lib/ld-linux-x86-64.so.2 --library-path $tools/lib"
+    RUN_KIT="$RUN${tools:+ $tools/lib/ld-linux-x86-64.so.2 --library-path $tools/lib}"
 }
 
 if [ "$(uname -m)" = x86_64 ]; then find_native; else find_emulated; fi
