@@ -98,7 +98,7 @@ def seven(registers):
     return [r.n, r.h, r.pc, r.sp, r.fbr, r.halt, r.used]
 
 
-class Session:
+class LentMachine:
     """A machine of the driver and the same machine in sam/."""
 
     def __init__(self, script, program, state, registers_length=7):

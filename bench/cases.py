@@ -1,7 +1,7 @@
 """The families of cases that compare.py draws from: each adds calls to a script."""
 
 import sam
-from calls import IMAGE_BYTES, PLACES, TEXT_BYTES, Session
+from calls import IMAGE_BYTES, PLACES, TEXT_BYTES, LentMachine
 from programs import any_integer, any_operand, any_pattern, any_program
 from sam.actions import FLOAT, INT, MA, PA
 from sam.machine import cell_place, step_place
@@ -107,7 +107,7 @@ def image_case(chooser, script):
         script.unpack(damaged_image(chooser, image))
 
 
-# ---- sessions
+# ---- series of calls
 
 
 def fresh_state(chooser):
@@ -122,25 +122,25 @@ def fresh_state(chooser):
     )
 
 
-def session_call(chooser, session):
+def series_call(chooser, lent):
     kind = chooser.randrange(12)
     if kind < 6:
-        return session.step()
+        return lent.step()
     if kind < 9:
-        return session.back()
+        return lent.back()
     if kind == 9:
-        return session.run(chooser.randrange(1, 8))
-    return session.run(chooser.choice([0, 20, 200, 1000]))
+        return lent.run(chooser.randrange(1, 8))
+    return lent.run(chooser.choice([0, 20, 200, 1000]))
 
 
-def session_case(chooser, script):
+def series_case(chooser, script):
     """A reset, then steps, runs and step-backs; now and then all the way back."""
-    session = Session(script, made_program(chooser), fresh_state(chooser))
-    session.reset()
+    lent = LentMachine(script, made_program(chooser), fresh_state(chooser))
+    lent.reset()
     for _ in range(chooser.randrange(4, 30)):
-        session_call(chooser, session)
-    if chooser.randrange(4) == 0 and session.state.registers.used <= 100:
-        while session.back() == 0:
+        series_call(chooser, lent)
+    if chooser.randrange(4) == 0 and lent.state.registers.used <= 100:
+        while lent.back() == 0:
             pass
 
 
@@ -153,9 +153,9 @@ def reset_case(chooser, script):
     if chooser.randrange(2):
         program = damaged_program(chooser, program)
     state = sam.State([7] * n, [8] * tags, [9] * h, sam.Registers(1, 2, 3, 4, 5, 6, 7))
-    session = Session(script, program, state, chooser.choice([7] * 8 + [0, 6, 8]))
-    session.reset()
-    session.step()
+    lent = LentMachine(script, program, state, chooser.choice([7] * 8 + [0, 6, 8]))
+    lent.reset()
+    lent.step()
 
 
 # ---- states that no reset leads to
@@ -226,14 +226,14 @@ def made_record(chooser, program, state):
 BREAKS = [break_registers, break_registers, break_cells, break_slices, break_record, made_record, made_record]
 
 
-def any_call(chooser, session):
+def any_call(chooser, lent):
     kind = chooser.randrange(5)
     if kind < 2:
-        return session.back()
+        return lent.back()
     if kind < 4:
-        return session.step()
-    limit = chooser.choice([0, 1, 50, 1000000, 1000001, DOUBLE_WORD - 1]) if session.registers_length == 7 else 5
-    return session.run(limit, chooser.choice([1] * 8 + [0, 2]))
+        return lent.step()
+    limit = chooser.choice([0, 1, 50, 1000000, 1000001, DOUBLE_WORD - 1]) if lent.registers_length == 7 else 5
+    return lent.run(limit, chooser.choice([1] * 8 + [0, 2]))
 
 
 def broken_case(chooser, script):
@@ -244,9 +244,9 @@ def broken_case(chooser, script):
         program = damaged_program(chooser, program)
     else:
         chooser.choice(BREAKS)(chooser, program, state)
-    session = Session(script, program, state, chooser.choice([7] * 20 + [6, 8]))
+    lent = LentMachine(script, program, state, chooser.choice([7] * 20 + [6, 8]))
     for _ in range(4):
-        any_call(chooser, session)
+        any_call(chooser, lent)
 
 
 def plain_case(chooser, script):
@@ -255,9 +255,9 @@ def plain_case(chooser, script):
     state = worked_state(chooser, program)
     if chooser.randrange(3) == 0:
         chooser.choice(BREAKS)(chooser, program, state)
-    session = Session(script, program, state)
+    lent = LentMachine(script, program, state)
     for _ in range(6):
-        session.run(chooser.choice([0, 1, 2, 5, 200, 1000, 1000001]), chooser.choice([1] * 20 + [2]), word="plain")
+        lent.run(chooser.choice([0, 1, 2, 5, 200, 1000, 1000001]), chooser.choice([1] * 20 + [2]), word="plain")
 
 
 # ---- one instruction at a time
@@ -300,16 +300,16 @@ def instruction_case(chooser, script):
         if step_number(program, state) not in (3, 4):
             break
         state = any_small_state(chooser)
-    session = Session(script, program, state)
-    session.step()
-    session.back()
+    lent = LentMachine(script, program, state)
+    lent.step()
+    lent.back()
 
 
 # Each family with its share of the cases.
 FAMILIES = {
     "text": (text_case, 4),
     "image": (image_case, 2),
-    "session": (session_case, 3),
+    "series": (series_case, 3),
     "reset": (reset_case, 1),
     "instruction": (instruction_case, 40),
     "broken": (broken_case, 5),
