@@ -1,0 +1,19 @@
+-- `word::logic::and` meets its contract. Assumes nothing.
+use borrow.Author.Needs.{needs}
+use Rattle.word.proofs.logic.and.Statement.{statement}
+use Rattle.word.proofs.logic.and.Tie as tie
+
+holds-requires : tie.Need-holds-requires
+holds-requires c κs = search needs
+
+holds-requires-2 : tie.Need-holds-requires-2
+holds-requires-2 c κs = search needs
+
+bit-requires : tie.Need-bit-requires
+bit-requires c κs = search needs
+
+returns : tie.Need-returns
+returns c = rw (c .bit .ensures, c .before .before .holds .ensures, c .before .holds2 .ensures)
+
+pub and-spec : {M : Type 1} → statement M
+and-spec = tie.close (tie.spec holds-requires holds-requires-2 bit-requires returns)

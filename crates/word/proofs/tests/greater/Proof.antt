@@ -1,0 +1,16 @@
+-- `word::tests::greater` meets its contract. Assumes nothing.
+use borrow.Author.Needs.{needs}
+use Rattle.word.proofs.tests.greater.Statement.{statement}
+use Rattle.word.proofs.tests.greater.Tie as tie
+
+below-requires : tie.Need-below-requires
+below-requires c κs = search needs
+
+bit-requires : tie.Need-bit-requires
+bit-requires c κs = search needs
+
+returns : tie.Need-returns
+returns c = rw (c .bit .ensures, c .before .below .ensures)
+
+pub greater-spec : {M : Type 1} → statement M
+greater-spec = tie.close (tie.spec below-requires bit-requires returns)
