@@ -1,0 +1,2 @@
+pub mod Unique
+pub mod Runs
