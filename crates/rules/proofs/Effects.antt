@@ -199,20 +199,36 @@ or-right : (a b : Bool) → (not a || b) ≡ true → a ≡ true → b ≡ true
 or-right true b h q = h
 or-right false b h q = absurd (false≢true q)
 
--- the place at PC is one that can be assembled
-pub place-sound : (p : Program) (k : ℕ) → soundTable p ≡ true → k < p .count → soundPlace (p .count) (getD (p .places) k 0) ≡ true
-unfolding soundTable
-place-sound p k h kc =
-    let rest : Bool = all (soundPlace (p .count)) (take (p .count) (p .places)) && all isZero (drop (p .count) (p .places)) in
-    let short : p .count ≤ maxProgram = leb-true _ _ (and-left (leb (p .count) maxProgram) (eqb (length (p .places)) maxProgram && rest) h) in
-    let more : (eqb (length (p .places)) maxProgram && rest) ≡ true = and-right (leb (p .count) maxProgram) (eqb (length (p .places)) maxProgram && rest) h in
-    let long : length (p .places) ≡ maxProgram = eqb-true _ _ (and-left (eqb (length (p .places)) maxProgram) rest more) in
-    let places : all (soundPlace (p .count)) (take (p .count) (p .places)) ≡ true =
-    and-left (all (soundPlace (p .count)) (take (p .count) (p .places))) (all isZero (drop (p .count) (p .places)))
-    (and-right (eqb (length (p .places)) maxProgram) rest more) in
-    ap (soundPlace (p .count)) (sym (getD-take (p .count) (p .places) k 0 kc))
-    ∙ all-at (soundPlace (p .count)) (take (p .count) (p .places)) k places
-    (omega (arith, length-take-le (p .count) (p .places) (omega arith)))
+-- the table's part of a sound state
+module _ (p : Program) (h : soundTable p ≡ true) where
+  abbrev placed : Bool
+  placed = all (soundPlace (p .count)) (take (p .count) (p .places)) && all isZero (drop (p .count) (p .places))
+
+  abbrev sized : Bool
+  sized = eqb (length (p .places)) maxProgram && placed
+
+  pub table-short : p .count ≤ maxProgram
+  unfolding soundTable
+  table-short = leb-true (p .count) maxProgram (and-left (leb (p .count) maxProgram) sized h)
+
+  table-sized : sized ≡ true
+  unfolding soundTable
+  table-sized = and-right (leb (p .count) maxProgram) sized h
+
+  pub table-long : length (p .places) ≡ maxProgram
+  table-long = eqb-true (length (p .places)) maxProgram (and-left (eqb (length (p .places)) maxProgram) placed table-sized)
+
+  table-placed : all (soundPlace (p .count)) (take (p .count) (p .places)) ≡ true
+  table-placed =
+      and-left (all (soundPlace (p .count)) (take (p .count) (p .places))) (all isZero (drop (p .count) (p .places)))
+      (and-right (eqb (length (p .places)) maxProgram) placed table-sized)
+
+  -- a place below the program's length can be assembled
+  pub place-sound : (k : ℕ) → k < p .count → soundPlace (p .count) (getD (p .places) k 0) ≡ true
+  place-sound k kc =
+      ap (soundPlace (p .count)) (sym (getD-take (p .count) (p .places) k 0 kc))
+      ∙ all-at (soundPlace (p .count)) (take (p .count) (p .places)) k table-placed
+      (omega (arith, length-take-le (p .count) (p .places) (omega (arith, table-short, table-long))))
 
 place-aims : (count place : ℕ) → soundPlace count place ≡ true → aims (actionOf (codeOf place)) ≡ true → operandOf place ≤ count
 unfolding soundPlace kindOf actionOf aimed
@@ -393,4 +409,4 @@ fair-judged p r m e h q =
     let s : Sound p r m = sound-facts p r m h in
     let g : Going p r m e = judged-going p r m e q in
     let below : r .pc < p .count = going-below p r m e s g in
-    fair-place p r m s below (getD (p .places) (r .pc) 0) e (place-sound p (r .pc) (s .table) below) (g .decides) (g .sp)
+    fair-place p r m s below (getD (p .places) (r .pc) 0) e (place-sound p (s .table) (r .pc) below) (g .decides) (g .sp)
