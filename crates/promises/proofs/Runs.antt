@@ -4,6 +4,7 @@
 use Prim.Native.Nat.{ℕ, zero, suc, _+_, _≤_, _<_}
 use mathlib.Core.Path.{_≡_, refl, sym, ap, _∙_, subst}
 use mathlib.Core.Bool.{Bool, true, false}
+use native.Mathlib.Nat.{add-assoc, add-zero}
 use native.Mathlib.Numerals.{add-one}
 use native.Mathlib.Omega.{arith}
 use lib.Dec.{eqb}
@@ -22,7 +23,7 @@ use Rattle.rules.specs.declared.Step.the-variants.{Next, Refused}
 use Rattle.rules.specs.declared.Ending.{Ending}
 use Rattle.rules.specs.declared.Ending.the-variants.{Halted, LimitReached, Stopped}
 use Rattle.rules.proofs.Runs.{run-halted, run-limit, run-next, run-refused, run-enter}
-use Rattle.promises.specs.Series.{Session, step, accepted, ask, series}
+use Rattle.promises.specs.Series.{Session, step, run, accepted, ask, series}
 
 -- ---- steps one after the other
 
@@ -40,11 +41,26 @@ steps-end p zero s = refl
 steps-end p (suc k) s = steps-end p k (ask p s step)
 
 -- an accepted step after k of them
-pub steps-next : (p : Program) (k : ℕ) (r₀ r r′ : Registers) (m₀ m : Memory) → afterSteps p k r₀ m₀ ≡ standing k r m
+steps-next : (p : Program) (k : ℕ) (r₀ r r′ : Registers) (m₀ m : Memory) → afterSteps p k r₀ m₀ ≡ standing k r m
     → Step.step p r m .answer ≡ Next r′ → afterSteps p (k + 1) r₀ m₀ ≡ standing (k + 1) r′ (Step.step p r m .memory)
 steps-next p k r₀ r r′ m₀ m q e =
     ap (λ (n : ℕ). afterSteps p n r₀ m₀) (add-one k) ∙ steps-end p k (standing 0 r₀ m₀) ∙ ap (λ (s : Session). ask p s step) q
     ∙ ap {B = Session} (λ (a : Step). record { registers = registersAfter r a; memory = Step.step p r m .memory; made = k + accepted a; undone = 0 }) e
+
+-- k steps within a series: what they leave, and how many are accepted, is a matter of the registers and the memory alone
+abbrev joined : Session → Session → Session
+joined s t = record { registers = t .registers; memory = t .memory; made = s .made + t .made; undone = s .undone }
+
+steps-within : (p : Program) (k : ℕ) (s : Session) → series p (replicate k step) s ≡ joined s (afterSteps p k (s .registers) (s .memory))
+steps-within p zero s =
+    ap {B = Session} (λ (n : ℕ). record { registers = s .registers; memory = s .memory; made = n; undone = s .undone }) (sym (add-zero (s .made)))
+steps-within p (suc k) s =
+    let t : Session = afterSteps p k (s .registers) (s .memory) in
+    let o : Step.Stepped = Step.step p (t .registers) (t .memory) in
+    steps-end p k s ∙ ap (λ (u : Session). ask p u step) (steps-within p k s)
+    ∙ ap {B = Session} (λ (n : ℕ). record { registers = registersAfter (t .registers) (o .answer); memory = o .memory; made = n; undone = s .undone })
+    (add-assoc (s .made) (t .made) (accepted (o .answer)))
+    ∙ ap (joined s) (sym (steps-end p k (standing 0 (s .registers) (s .memory))))
 
 -- ---- a run
 
@@ -112,3 +128,12 @@ pub run-is-its-steps : (p : Program) (limit : ℕ) (r : Registers) (m : Memory) 
     → IsItsSteps p limit r m (Run.run p limit r m)
 run-is-its-steps p limit r m s l =
     subst (IsItsSteps p limit r m) (sym (run-enter p limit r m (le-leb _ _ l) s)) (all-turns p limit r m limit 0 r m (omega arith) refl)
+
+-- Within a series, such a run does what as many single steps do as it tells.
+pub run-within : (p : Program) (limit : ℕ) (s : Session) → sound p (s .registers) (s .memory) ≡ true → limit ≤ maxLimit
+    → ask p s (run limit) ≡ series p (replicate (Run.run p limit (s .registers) (s .memory) .answer .steps) step) s
+run-within p limit s h l =
+    let a : Ran = Run.run p limit (s .registers) (s .memory) in
+    let w : IsItsSteps p limit (s .registers) (s .memory) a = run-is-its-steps p limit (s .registers) (s .memory) h l in
+    (λ i. record { registers = w .registers i; memory = w .memory i; made = s .made + sym (w .accepted) i; undone = s .undone })
+    ∙ sym (steps-within p (a .answer .steps) s)
