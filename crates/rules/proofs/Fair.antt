@@ -1,10 +1,10 @@
 -- What an effect has to be, so that what it makes of a sound state is sound again: the statements that step, run and step-back lean on.
 -- Assumes nothing.
-use Prim.Native.Nat.{ℕ, _+_, _^_, _≤_, _<_}
+use Prim.Native.Nat.{ℕ, _+_, _-_, _^_, _≤_, _<_}
 use mathlib.Core.Path.{_≡_}
 use mathlib.Core.Bool.{true}
 use mathlib.Core.List.{List}
-use lib.ListN.{getD, length}
+use lib.ListN.{getD, length, drop, replicate}
 use Rattle.rules.specs.Sizes.{maxCells, maxHistory}
 use Rattle.rules.specs.Table.{Program, soundTable}
 use Rattle.rules.specs.Tags.{PA}
@@ -62,3 +62,7 @@ pub record Fair (p : Program) (r : Registers) (e : Effect) : Type 0 where
 -- every cell has 32 bits, as every lent slice of them has
 abbrev pub Narrow : Memory → Type 0
 Narrow m = (k : ℕ) → getD (m .bits) k 0 < 2 ^ 32
+
+-- the places that no record uses are zero, as a reset leaves them
+abbrev pub Blank : Registers → Memory → Type 0
+Blank r m = drop (r .used) (m .history) ≡ replicate (r .h - r .used) 0

@@ -97,12 +97,16 @@ module _ (m : Memory) (e : Effect) (ht : e .at + e .count ≤ length (m .tags)) 
 
 -- ---- the tests of a sound state, from the facts
 
-pub cell-sound : (count : ℕ) (c : Cell) → FairCell count c → soundCell count (c .tag) (c .bits) ≡ true
-cell-sound count c f = ap₂ _&&_ (le-leb (c .tag) 3 (f .tag)) (go (eqb (c .tag) PA) refl)
+-- not "a PA cell above length"
+pub pa-sound : (t b count : ℕ) → (t ≡ PA → b ≤ count) → (not (eqb t PA) || leb b count) ≡ true
+pa-sound t b count h = go (eqb t PA) refl
   where
-    go : (x : Bool) → eqb (c .tag) PA ≡ x → (not x || leb (c .bits) count) ≡ true
-    go true q = le-leb (c .bits) count (f .pa (eqb-true (c .tag) PA q))
+    go : (x : Bool) → eqb t PA ≡ x → (not x || leb b count) ≡ true
+    go true q = le-leb b count (h (eqb-true t PA q))
     go false q = refl
+
+pub cell-sound : (count : ℕ) (c : Cell) → FairCell count c → soundCell count (c .tag) (c .bits) ≡ true
+cell-sound count c f = ap₂ _&&_ (le-leb (c .tag) 3 (f .tag)) (pa-sound (c .tag) (c .bits) count (f .pa))
 
 pub cells-sound : (count : ℕ) (ts bs : List ℕ) → FairCells count ts bs → soundCells count ts bs ≡ true
 cells-sound count [] bs f = refl
@@ -112,7 +116,21 @@ cells-sound count (t ∷ ts) (b ∷ bs) f = ap₂ _&&_ (cell-sound count (record
 pub facts-sound : (p : Program) (r : Registers) (m : Memory) → Sound p r m → sound p r m ≡ true
 unfolding sound
 facts-sound p r m s =
-    simp (s .table, le-leb _ _ (s .some), le-leb _ _ (s .few), le-leb _ _ (s .short), eq-eqb _ _ (s .bits), eq-eqb _ _ (s .tags), eq-eqb _ _ (s .history), lt-ltb _ _ (s .sp), lt-ltb _ _ (s .fbr), le-leb _ _ (s .pc), le-leb _ _ (s .halt), le-leb _ _ (s .used), cells-sound (p .count) (m .tags) (m .bits) (s .cells))
+    simp (
+      s .table,
+      le-leb _ _ (s .some),
+      le-leb _ _ (s .few),
+      le-leb _ _ (s .short),
+      eq-eqb _ _ (s .bits),
+      eq-eqb _ _ (s .tags),
+      eq-eqb _ _ (s .history),
+      lt-ltb _ _ (s .sp),
+      lt-ltb _ _ (s .fbr),
+      le-leb _ _ (s .pc),
+      le-leb _ _ (s .halt),
+      le-leb _ _ (s .used),
+      cells-sound (p .count) (m .tags) (m .bits) (s .cells),
+    )
 
 -- ---- the history after, with a record or without
 module _ (u n h : ℕ) (low : u ≤ h) where
