@@ -1,0 +1,6 @@
+pub mod Unique
+pub mod Runs
+pub mod Demand3Trail
+pub mod Demand3Reset
+pub mod Demand3Kept
+pub mod Demand3
