@@ -1,0 +1,3 @@
+-- The demands, shown.
+pub mod ListingRound
+pub mod Listing
