@@ -127,7 +127,7 @@ put-digits-returns-2 : (t : ℕ) → put-digits-lts.Need-returns-2 (
 ) (put-digits-at t) put-digits.Post
 put-digits-returns-2 t c =
     let a = c .before .before .before .before .before .before .before .args in
-    let e = texts.decimal-small (a .k) (a .n) (c .before .before .before .before .if2 .taken) in
+    let e = texts.decimal-small (a .k) (a .n) (omega arith) in
     (rw e, rw e (c .before .before .put-byte2 .ensures))
 
 put-digits-sub-put-digits : (t : ℕ) → put-digits-lts.Need-sub-put-digits (
