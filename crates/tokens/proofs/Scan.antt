@@ -6,10 +6,9 @@ use lib.Dec.{ltb, eqb}
 use borrow.Author.Tests.{ltb-true, ltb-false, eq-eqb, ne-eqb}
 use mathlib.Core.List.{List, [], _∷_, _++_}
 use Prim.Native.Nat.{ℕ, suc, _+_, _-_, _≤_, _<_}
-use native.Mathlib.Numerals.{add-one}
 use native.Mathlib.Omega.{arith}
 use lib.ListN.{length, drop, getD, drop-of-length-le}
-use lib.Seq.{drop-cons}
+use Rattle.rules.proofs.Tests.{drop-next, and-left, and-right}
 use Rattle.rules.specs.Bytes.{blank}
 use Rattle.rules.specs.Tokens.{Token, opens, stops, last, extend, tokens, comment}
 use Rattle.tokens.specs.Next.{from, inside, between, Ended}
@@ -24,10 +23,7 @@ or-left true b h = h
 
 or-right : (a b : Bool) → (a || b) ≡ false → b ≡ false
 or-right false b h = h
-or-right true b h = absurd-or h
-  where
-    absurd-or : {x : Bool} → true ≡ false → x ≡ false
-    absurd-or e = cc
+or-right true b h = absurd (true≢false h)
 
 pub tokens-blank : (at b : ℕ) (s : List ℕ) → blank b ≡ true → tokens at (b ∷ s) ≡ tokens (at + 1) s
 unfolding tokens
@@ -46,21 +42,18 @@ unfolding tokens stops
 tokens-more at b s h k = rw (or-left (blank b) (opens (b ∷ s)) h, or-right (blank b) (opens (b ∷ s)) h, k)
 
 module _ (src : List ℕ) (i : ℕ) where
-  pub drop-at : i < length src → drop i src ≡ getD src i 0 ∷ drop (i + 1) src
-  drop-at h = rw (add-one, drop-cons src i 0 h)
-
   pub from-end : length src ≤ i → from src i ≡ []
   unfolding from tokens
   from-end h = rw (drop-of-length-le src h)
 
   pub from-blank : i < length src → blank (getD src i 0) ≡ true → from src i ≡ from src (i + 1)
   unfolding from
-  from-blank h k = ap (tokens i) (drop-at h) ∙ tokens-blank i (getD src i 0) (drop (i + 1) src) k
+  from-blank h k = ap (tokens i) (drop-next src i h) ∙ tokens-blank i (getD src i 0) (drop (i + 1) src) k
 
   pub from-comment : i < length src → blank (getD src i 0) ≡ false → opens (drop i src) ≡ true → from src i ≡ inside src (i + 1)
   unfolding from inside
   from-comment h k l =
-      ap (tokens i) (drop-at h) ∙ tokens-comment i (getD src i 0) (drop (i + 1) src) k (rw (drop-at h) at l)
+      ap (tokens i) (drop-next src i h) ∙ tokens-comment i (getD src i 0) (drop (i + 1) src) k (rw (drop-next src i h) at l)
 
   pub inside-end : length src ≤ i → inside src i ≡ []
   unfolding inside comment
@@ -68,23 +61,23 @@ module _ (src : List ℕ) (i : ℕ) where
 
   pub inside-lf : i < length src → getD src i 0 ≡ 10 → inside src i ≡ from src (i + 1)
   unfolding from inside comment
-  inside-lf h k = ap (comment i) (drop-at h) ∙ rw (eq-eqb (getD src i 0) 10 k)
+  inside-lf h k = ap (comment i) (drop-next src i h) ∙ rw (eq-eqb (getD src i 0) 10 k)
 
   pub inside-more : i < length src → (getD src i 0 ≡ 10 → ⊥) → inside src i ≡ inside src (i + 1)
   unfolding inside comment
-  inside-more h k = ap (comment i) (drop-at h) ∙ rw (ne-eqb (getD src i 0) 10 k)
+  inside-more h k = ap (comment i) (drop-next src i h) ∙ rw (ne-eqb (getD src i 0) 10 k)
 
   pub part-one : i < length src → between src i (i + 1) ≡ getD src i 0 ∷ []
   unfolding between
   part-one h =
       let e : i + 1 - i ≡ 1 = omega arith in
-      rw (drop-at h, e)
+      rw (drop-next src i h, e)
 
   pub part-more : (e : ℕ) → i < e → i < length src → between src i e ≡ getD src i 0 ∷ between src (i + 1) e
   unfolding between
   part-more e h k =
       let q : e - i ≡ suc (e - (i + 1)) = omega arith in
-      rw (drop-at k, q)
+      rw (drop-next src i k, q)
 
   pub ended-last : i < length src → stops (drop i src) ≡ false → last (getD src i 0) (drop (i + 1) src) ≡ true → Ended src i (i + 1)
   unfolding from
@@ -94,7 +87,7 @@ module _ (src : List ℕ) (i : ℕ) where
         high = omega arith;
         first =
             rw (part-one h)
-            (ap (tokens i) (drop-at h) ∙ tokens-last i (getD src i 0) (drop (i + 1) src) (rw (drop-at h) at k) l);
+            (ap (tokens i) (drop-next src i h) ∙ tokens-last i (getD src i 0) (drop (i + 1) src) (rw (drop-next src i h) at k) l);
       }
 
   pub ended-more : i < length src → stops (drop i src) ≡ false → last (getD src i 0) (drop (i + 1) src) ≡ false → (e : ℕ) → Ended src (i + 1) e → Ended src i e
@@ -105,8 +98,8 @@ module _ (src : List ℕ) (i : ℕ) where
         high = t .high;
         first =
             rw (part-more e (omega arith) h)
-            (ap (tokens i) (drop-at h)
-            ∙ tokens-more i (getD src i 0) (drop (i + 1) src) (rw (drop-at h) at k) l
+            (ap (tokens i) (drop-next src i h)
+            ∙ tokens-more i (getD src i 0) (drop (i + 1) src) (rw (drop-next src i h) at k) l
             ∙ ap (extend i (getD src i 0)) (t .first));
       }
 
@@ -116,11 +109,11 @@ module _ (src : List ℕ) (i : ℕ) where
 
   pub stops-here : i < length src → stops (drop i src) ≡ (blank (getD src i 0) || opens (drop i src))
   unfolding stops
-  stops-here h = rw (drop-at h)
+  stops-here h = rw (drop-next src i h)
 
   pub opens-none : i < length src → (getD src i 0 ≡ 47 → ⊥) → opens (drop i src) ≡ false
   unfolding opens
-  opens-none h k = ap opens (drop-at h) ∙ go (drop (i + 1) src)
+  opens-none h k = ap opens (drop-next src i h) ∙ go (drop (i + 1) src)
     where
       go : (s : List ℕ) → opens (getD src i 0 ∷ s) ≡ false
       go [] = refl
@@ -128,13 +121,13 @@ module _ (src : List ℕ) (i : ℕ) where
 
   pub opens-short : i < length src → length src ≤ i + 1 → opens (drop i src) ≡ false
   unfolding opens
-  opens-short h k = rw (drop-at h, drop-of-length-le src k)
+  opens-short h k = rw (drop-next src i h, drop-of-length-le src k)
 
 pub opens-two : (src : List ℕ) (i : ℕ) → i + 1 < length src → getD src i 0 ≡ 47 → opens (drop i src) ≡ eqb (getD src (i + 1) 0) 47
 unfolding opens
 opens-two src i h k =
     let l : i < length src = omega arith in
-    rw (drop-at src i l, drop-at src (i + 1) h, k)
+    rw (drop-next src i l, drop-next src (i + 1) h, k)
 
 pub last-colon : (b : ℕ) (s : List ℕ) → b ≡ 58 → last b s ≡ true
 unfolding last
@@ -171,10 +164,6 @@ not-or false true c h = (cc h, cc h, cc h)
 not-or false false true h = (cc h, cc h, cc h)
 not-or false false false h = (refl, refl, refl)
 
-and-both : (a b : Bool) → (a && b) ≡ true → (a ≡ true) × (b ≡ true)
-and-both true b h = (refl, h)
-and-both false b h = (cc h, cc h)
-
 plain-parts : (b : ℕ) → plain b ≡ true → (blank b ≡ false) × (eqb b 47 ≡ false) × (eqb b 58 ≡ false)
 unfolding plain
 plain-parts b h = not-or (blank b) (eqb b 47) (eqb b 58) h
@@ -200,14 +189,15 @@ extend-word at n b w ts = refl
 pub tokens-word : (at b : ℕ) (w rest : List ℕ) → allPlain (b ∷ w) ≡ true → stops rest ≡ true → tokens at (b ∷ (w ++ rest)) ≡ record { at = at; text = b ∷ w } ∷ tokens (at + length (b ∷ w)) rest
 unfolding allPlain
 tokens-word at b [] rest h k =
-    let p = and-both (plain b) true h .0 in
+    let p = and-left (plain b) true h in
     tokens-last at b rest (plain-stops b rest p) (last-stop b rest k)
 tokens-word at b (a ∷ w) rest h k =
-    let p = and-both (plain b) (allPlain (a ∷ w)) h in
-    let q = and-both (plain a) (allPlain w) (p .1) in
+    let p = and-left (plain b) (allPlain (a ∷ w)) h in
+    let r = and-right (plain b) (allPlain (a ∷ w)) h in
+    let q = and-left (plain a) (allPlain w) r in
     let e : at + 1 + length (a ∷ w) ≡ at + length (b ∷ a ∷ w) = omega arith in
-    tokens-more at b (a ∷ (w ++ rest)) (plain-stops b (a ∷ (w ++ rest)) (p .0)) (last-go b a (w ++ rest) (p .0) (q .0))
-    ∙ ap (extend at b) (tokens-word (at + 1) a w rest (p .1) k)
+    tokens-more at b (a ∷ (w ++ rest)) (plain-stops b (a ∷ (w ++ rest)) p) (last-go b a (w ++ rest) p q)
+    ∙ ap (extend at b) (tokens-word (at + 1) a w rest r k)
     ∙ extend-word at (at + 1) b (a ∷ w) (tokens (at + 1 + length (a ∷ w)) rest)
     ∙ ap (λ (n : ℕ). record { at = at; text = b ∷ a ∷ w } ∷ tokens n rest) e
 

@@ -1,10 +1,10 @@
 -- One answer alone meets the scanner's contract. Assumes nothing.
-use Prim.Native.Nat.{ℕ, _+_, _-_, _≤_, _<_}
+use Prim.Native.Nat.{ℕ, _-_, _≤_}
 use mathlib.Core.Path.{_≡_, refl, ap, sym, _∙_}
 use mathlib.Core.List.{List, [], _∷_}
 use native.Mathlib.Omega.{arith}
-use lib.ListN.{length, drop, length-drop}
-use lib.Seq.{length-take-le}
+use lib.ListN.{length}
+use Rattle.rules.proofs.Splice.{length-part}
 use Rattle.rules.specs.Tokens.{Token}
 use Rattle.tokens.specs.Next.{from, between, FoundAt, NextIs}
 use Rattle.tokens.specs.declared.Next.{Next}
@@ -12,7 +12,7 @@ use Rattle.tokens.specs.declared.Next.the-variants.{Found, Done}
 
 pub length-between : (src : List ℕ) (a e : ℕ) → a ≤ e → e ≤ length src → length (between src a e) ≡ e - a
 unfolding between
-length-between src a e h k = length-take-le (e - a) (drop a src) (rw length-drop (omega arith))
+length-between src a e h k = length-part a (e - a) src (omega arith)
 
 -- the place of the first token, and the bytes of it
 abbrev firstAt : List Token → ℕ
