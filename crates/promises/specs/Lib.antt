@@ -1,0 +1,2 @@
+-- What the demands say.
+pub mod Series

@@ -1,0 +1,101 @@
+-- Demand 3: "After any series of steps, runs and step-backs from a reset, with S steps and B step-backs accepted, everything (registers, cells,
+-- tags, history) equals a fresh reset and S minus B steps. With history room, a step-back is refused exactly when S equals B." Here is what that
+-- says; proofs/Demand3.antt shows it. Assumes nothing.
+use Prim.Native.Nat.{ℕ, _+_, _-_, _≤_}
+use mathlib.Core.Path.{_≡_}
+use mathlib.Core.Bool.{Bool, true, false, _||_}
+use mathlib.Core.List.{List, [], _∷_}
+use lib.ListN.{replicate}
+use lib.Dec.{eqb}
+use Rattle.rules.specs.Table.{Program}
+use Rattle.rules.specs.State.{Memory}
+use Rattle.rules.specs.Numbers.{registersAfter}
+use Rattle.rules.specs.Step.{Stepped}
+use Rattle.rules.specs.Step as Step
+use Rattle.rules.specs.Back as Back
+use Rattle.rules.specs.Run as Run
+use Rattle.rules.specs.Reset as Reset
+use Rattle.rules.specs.declared.Registers.{Registers}
+use Rattle.rules.specs.declared.Step.{Step}
+use Rattle.rules.specs.declared.Step.the-variants.{Next, Refused}
+
+-- what a technician asks of the machine: one step, a run with a limit, one step-back
+pub data Request : Type 0 where
+  step : Request
+  run : ℕ → Request
+  back : Request
+
+-- where a series stands: the registers, the cells and the history; S, the steps accepted, and B, the step-backs accepted
+pub record Session : Type 0 where
+  pub registers : Registers
+  pub memory : Memory
+  pub made : ℕ
+  pub undone : ℕ
+
+-- whether an answer is a refusal, and 1 for one that is none
+abbrev pub refuses : Step → Bool
+refuses (Next r) = false
+refuses (Refused e) = true
+
+abbrev pub accepted : Step → ℕ
+accepted (Next r) = 1
+accepted (Refused e) = 0
+
+-- after a step, after a step-back, after a run: a refused one leaves the registers as they were, and a run tells the steps it made
+abbrev pub stepped : Session → Stepped → Session
+stepped s o =
+    record {
+      registers = registersAfter (s .registers) (o .answer);
+      memory = o .memory;
+      made = s .made + accepted (o .answer);
+      undone = s .undone;
+    }
+
+abbrev pub backed : Session → Stepped → Session
+backed s o =
+    record {
+      registers = registersAfter (s .registers) (o .answer);
+      memory = o .memory;
+      made = s .made;
+      undone = s .undone + accepted (o .answer);
+    }
+
+abbrev pub ran : Session → Run.Ran → Session
+ran s a =
+    record {
+      registers = a .answer .registers;
+      memory = a .memory;
+      made = s .made + a .answer .steps;
+      undone = s .undone;
+    }
+
+-- one request: exactly the definitions that the contracts of the public calls cite
+abbrev pub ask : Program → Session → Request → Session
+ask p s step = stepped s (Step.step p (s .registers) (s .memory))
+ask p s (run limit) = ran s (Run.run p limit (s .registers) (s .memory))
+ask p s back = backed s (Back.back p (s .registers) (s .memory))
+
+abbrev pub series : Program → List Request → Session → Session
+series p [] s = s
+series p (q ∷ qs) s = series p qs (ask p s q)
+
+-- a fresh reset of the lent memory
+abbrev pub fresh : Program → Memory → Session
+fresh p m =
+    record { registers = Reset.reset p m .answer .registers; memory = Reset.reset p m .memory; made = 0; undone = 0 }
+
+-- a fresh reset and k steps
+abbrev pub afresh : Program → Memory → ℕ → Session
+afresh p m k = series p (replicate k step) (fresh p m)
+
+-- what is promised of a session s that began with a reset of the lent memory m
+pub record Promised (p : Program) (m : Memory) (s : Session) : Type 0 where
+  -- no more is taken back than was made
+  pub within : s .undone ≤ s .made
+  -- registers, cells, tags and history equal a fresh reset and S minus B steps
+  pub registers : s .registers ≡ afresh p m (s .made - s .undone) .registers
+  pub memory : s .memory ≡ afresh p m (s .made - s .undone) .memory
+  -- each of which is accepted
+  pub steps : afresh p m (s .made - s .undone) .made ≡ s .made - s .undone
+  -- a step-back is refused exactly when S equals B, or H = 0
+  pub refused : refuses (Back.back p (s .registers) (s .memory) .answer) ≡ (eqb (s .registers .h) 0 || eqb (s .made) (s .undone))
