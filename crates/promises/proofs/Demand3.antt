@@ -16,14 +16,14 @@ use Rattle.rules.specs.Step.{Stepped}
 use Rattle.rules.specs.Back.{back}
 use Rattle.rules.specs.Reset as Reset
 use Rattle.rules.specs.declared.Begun.the-variants.{Ready}
-use Rattle.promises.specs.Series.{Request, Session, refuses, series, fresh, afresh, Promised}
+use Rattle.promises.specs.Series.{Request, Session, refuses, series, fresh, Promised}
 use Rattle.promises.proofs.Runs.{standing, afterSteps}
 use Rattle.promises.proofs.Demand3Trail.{State, Good, Trail, back-empty, back-none, good-trail, steps-trail, back-trail}
 use Rattle.promises.proofs.Demand3Reset.{Accepted, left, reset-accepted, good-reset, reset-empty}
 use Rattle.promises.proofs.Demand3Kept.{stateOf, Kept, keep-series}
 
--- whether a step-back is refused says whether the trail has a step to take back, and a history to do it by
 module _ (p : Program) (s₀ : State) (good₀ : Good p s₀) (empty : s₀ .registers .used ≡ 0) where
+  -- a step-back is accepted exactly where the trail has a step to take back, and the machine a history to do it by
   refused-when : (s : Session) (k : ℕ) → Trail p s₀ k (stateOf s) → s .made ≡ s .undone + k → (b : Bool) → eqb (s .registers .h) 0 ≡ b
       → refuses (back p (s .registers) (s .memory) .answer) ≡ (b || eqb (s .made) (s .undone))
   refused-when s zero q c b x =
@@ -36,11 +36,11 @@ module _ (p : Program) (s₀ : State) (good₀ : Good p s₀) (empty : s₀ .reg
       ap (λ (o : Stepped). refuses (o .answer)) (back-trail p s₀ good₀ k (stateOf s) t (pos-of-ne-zero (eqb-false _ _ x)))
       ∙ sym (ne-eqb (s .made) (s .undone) (λ e. omega (arith, c, e)))
 
-  -- what a kept session is
-  promised : (s : Session) → Kept p s₀ s
-      → (k : ℕ) → k ≡ s .made - s .undone → afterSteps p k (s₀ .registers) (s₀ .memory) ≡ standing k (s .registers) (s .memory)
-  promised s w k e =
-      let far : w .far ≡ k = omega (arith, w .count) in
+  -- a kept session is where S minus B steps lead
+  after-kept : (s : Session) → Kept p s₀ s
+      → afterSteps p (s .made - s .undone) (s₀ .registers) (s₀ .memory) ≡ standing (s .made - s .undone) (s .registers) (s .memory)
+  after-kept s w =
+      let far : w .far ≡ s .made - s .undone = omega (arith, w .count) in
       subst (λ (n : ℕ). afterSteps p n (s₀ .registers) (s₀ .memory) ≡ standing n (s .registers) (s .memory)) far
       (steps-trail p s₀ good₀ (w .far) (stateOf s) (w .trail))
 
@@ -52,8 +52,7 @@ demand3 p m ready qs =
     let empty : s₀ .registers .used ≡ 0 = reset-empty p m a in
     let s : Session = series p qs (fresh p m) in
     let w : Kept p s₀ s = keep-series p s₀ good₀ empty qs (fresh p m) (record { far = 0; trail = refl; count = refl }) in
-    let same : afresh p m (s .made - s .undone) ≡ standing (s .made - s .undone) (s .registers) (s .memory) =
-    promised p s₀ good₀ empty s w (s .made - s .undone) refl in
+    let same = after-kept p s₀ good₀ empty s w in
     record {
       within = omega (arith, w .count);
       registers = ap (λ (t : Session). t .registers) (sym same);

@@ -42,6 +42,11 @@ reset-accepted p m = go (every (sizeTests m)) refl (soundTable p) refl
     go true x false y q = not-denied Broken q
     go false x b y q = not-denied OutsideSizes q
 
+-- and a reset is accepted wherever they pass, so that demand 3's premise is met by every sound table and all lent memory within "Sizes"
+pub reset-ready : (p : Program) (m : Memory) → every (sizeTests m) ≡ true → soundTable p ≡ true → reset p m .answer .begun ≡ Ready
+unfolding reset
+reset-ready p m sizes table = rw (sizes, table) refl
+
 -- ---- what it leaves
 
 -- where a reset leaves the machine
