@@ -8,7 +8,7 @@ use crate::integers::signed;
 pub fn bit(test: bool) -> u32
     ensures { λ r. ⌜ r ≡ bit test ⌝ }
 {
-    if test { 1 } else { 0 }
+    test as u32
 }
 
 // Whether a word is true: "Nonzero is true."

@@ -1,0 +1,15 @@
+pub mod Order
+pub mod Closest
+pub mod Grid
+pub mod Cell
+pub mod Parts
+pub mod Overflow
+pub mod Parity
+pub mod Nearest
+pub mod Unique
+pub mod Fractions
+pub mod Sum
+pub mod Exact
+pub mod Compare
+pub mod Cells
+pub mod Checks
