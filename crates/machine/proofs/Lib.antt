@@ -1,1 +1,2 @@
 pub mod Signed
+pub mod Reach
