@@ -1,7 +1,7 @@
 // The instructions by families: those of one family take the same values and refuse the same. Each asks in the order of the numbers 3 to 6.
 ghost use mathlib.Core.Path.{_≡_};
-ghost use Rattle.rules.specs.State.{memory};
-ghost use Rattle.rules.specs.Decide.{onDup, onSwap, onSums, onInts, onDivides, onFloats, onCompareFloats, onOne, agree, onEqual, onIsNil, onPopSp, onPopFbr, onJumpC, onJumpInd, onJsrInd};
+ghost use Rattle.rules.specs.declared.Decision.the-variants.{Does};
+ghost use Rattle.rules.specs.Decide.{result, jumped, called, programAddress, onDup, onSwap, onSums, onInts, onDivides, onFloats, onCompareFloats, onOne, agree, onEqual, onIsNil, onPopSp, onPopFbr, onJumpC, onJumpInd, onJsrInd};
 ghost use Rattle.machine.specs.Small.{Small};
 use crate::addresses;
 use crate::effects;
@@ -249,4 +249,28 @@ pub(crate) fn on_jsr_ind(r: Registers, top: Cell) -> Decision
         return Decision::Refuses(MachineRefusal::WrongTag);
     }
     Decision::Does(effects::called(r, 1, ProgramAddress(top.bits as usize)))
+}
+
+// A cell is pushed.
+pub(crate) fn on_push(r: Registers, c: Cell) -> Decision
+    requires { ⌜ Small r ⌝ }
+    ensures { λ d. ⌜ d ≡ Does (result r 0 c) ⌝ }
+{
+    Decision::Does(effects::result(r, 0, c))
+}
+
+// PC is set to the target.
+pub(crate) fn on_jump(r: Registers, target: u32) -> Decision
+    requires { ⌜ Small r ⌝ }
+    ensures { λ d. ⌜ d ≡ Does (jumped r 0 (programAddress target)) ⌝ }
+{
+    Decision::Does(effects::jumped(r, 0, ProgramAddress(target as usize)))
+}
+
+// PC is set to the target, and the address after the call is pushed.
+pub(crate) fn on_jsr(r: Registers, target: u32) -> Decision
+    requires { ⌜ Small r ⌝ }
+    ensures { λ d. ⌜ d ≡ Does (called r 0 (programAddress target)) ⌝ }
+{
+    Decision::Does(effects::called(r, 0, ProgramAddress(target as usize)))
 }

@@ -1,14 +1,11 @@
+-- `machine::addresses::inside` meets its contract. Assumes nothing.
 use Rattle.machine.proofs.Signed.{nowhere, signed-low}
 use Rattle.machine.proofs.addresses.inside.Statement.{statement}
 use Rattle.machine.proofs.addresses.inside.Tie as tie
-use Rattle.machine.proofs.addresses.inside.Reads as reads
-use Rattle.machine.proofs.addresses.inside.Lts as lts
 
--- src/addresses.rt:18:9
 returns : tie.Need-returns
 returns c = nowhere (c .before .args .bits) (c .before .args .limit) (c .if1 .taken)
 
--- src/addresses.rt:14:1
 returns-2 : tie.Need-returns-2
 returns-2 c = rw (signed-low (c .before .args .bits) (c .if1 .left))
 

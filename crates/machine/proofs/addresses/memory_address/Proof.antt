@@ -1,14 +1,11 @@
+-- `machine::addresses::memory_address` meets its contract. Assumes nothing.
 use Rattle.machine.proofs.Signed.{signed-high, signed-low}
 use Rattle.machine.proofs.addresses.memory_address.Statement.{statement}
 use Rattle.machine.proofs.addresses.memory_address.Tie as tie
-use Rattle.machine.proofs.addresses.memory_address.Reads as reads
-use Rattle.machine.proofs.addresses.memory_address.Lts as lts
 
--- src/addresses.rt:28:9
 returns : tie.Need-returns
 returns c = rw (signed-high (c .before .args .bits) (c .if1 .taken))
 
--- src/addresses.rt:24:1
 returns-2 : tie.Need-returns-2
 returns-2 c = rw (signed-low (c .before .args .bits) (c .if1 .left))
 

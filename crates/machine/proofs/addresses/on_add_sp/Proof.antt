@@ -1,33 +1,24 @@
+-- `machine::addresses::on_add_sp` meets its contract. Assumes nothing.
 use Rattle.machine.proofs.Reach.{add-to, add-below}
 use borrow.Author.Needs.{needs}
 use Rattle.machine.proofs.addresses.on_add_sp.Statement.{statement}
 use Rattle.machine.proofs.addresses.on_add_sp.Tie as tie
-use Rattle.machine.proofs.addresses.on_add_sp.Reads as reads
-use Rattle.machine.proofs.addresses.on_add_sp.Lts as lts
-use Rattle.machine.proofs.addresses.moved_by.Reads as moved-by-reads
-use Rattle.machine.proofs.effects.moved.Reads as moved-reads
 
--- src/addresses.rt:104:9
 moved-by-requires : tie.Need-moved-by-requires
 moved-by-requires c κs = search needs
 
--- src/addresses.rt:106:19
 enum-known-to : tie.Need-enum-known-to
 enum-known-to c = search needs
 
--- src/addresses.rt:106:40
 moved-requires : tie.Need-moved-requires
 moved-requires c κs = search needs
 
--- src/addresses.rt:107:43
 enum-told : tie.Need-enum-told
 enum-told c = search needs
 
--- src/addresses.rt:100:1
 returns : tie.Need-returns
 returns c = rw (c .moved .ensures) (add-to (c .before .before .before .before .before .args .r) (c .before .before .before .before .before .args .offset) (c .before .before .to .given .0 .0) (rw (c .before .before .to .given .1) at (c .before .before .before .before .moved-by .ensures)))
 
--- src/addresses.rt:100:1
 returns-2 : tie.Need-returns-2
 returns-2 c = add-below (c .before .before .before .args .r) (c .before .before .before .args .offset) (rw (c .enum-told .given .1) at (c .before .before .moved-by .ensures))
 

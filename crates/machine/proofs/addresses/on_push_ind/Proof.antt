@@ -1,44 +1,31 @@
+-- `machine::addresses::on_push_ind` meets its contract. Assumes nothing.
 use borrow.Author.Tests.{lt-leb, le-leb, ne-eqb, not-true, not-false}
 use mathlib.Core.Path.{sym, _∙_}
 use borrow.Author.Needs.{needs}
 use Rattle.machine.proofs.addresses.on_push_ind.Statement.{statement}
 use Rattle.machine.proofs.addresses.on_push_ind.Tie as tie
-use Rattle.machine.proofs.addresses.on_push_ind.Reads as reads
-use Rattle.machine.proofs.addresses.on_push_ind.Lts as lts
-use Rattle.machine.proofs.addresses.cell_at.Reads as cell-at-reads
-use Rattle.machine.proofs.addresses.inside.Reads as inside-reads
-use Rattle.machine.proofs.addresses.memory_address.Reads as memory-address-reads
-use Rattle.machine.proofs.effects.result.Reads as result-reads
 
--- src/addresses.rt:117:9
 returns : tie.Need-returns
 returns c = rw (lt-leb _ _ (c .if1 .taken))
 
--- src/addresses.rt:120:9
 returns-2 : tie.Need-returns-2
 returns-2 c = rw (le-leb _ _ (c .before .before .if1 .left), ne-eqb _ _ (c .if2 .taken))
 
--- src/addresses.rt:122:9
 inside-requires : tie.Need-inside-requires
 inside-requires c κs = search needs
 
--- src/addresses.rt:123:9
 returns-3 : tie.Need-returns-3
 returns-3 c = rw (le-leb _ _ (c .before .before .before .before .before .if1 .left), c .before .before .before .if2 .left, sym (c .before .inside .ensures) ∙ not-true _ (c .if3 .taken))
 
--- src/addresses.rt:125:33
 memory-address-requires : tie.Need-memory-address-requires
 memory-address-requires c κs = search needs
 
--- src/addresses.rt:125:9
 cell-at-requires : tie.Need-cell-at-requires
 cell-at-requires c κs = search needs
 
--- src/addresses.rt:126:20
 result-requires : tie.Need-result-requires
 result-requires c κs = search needs
 
--- src/addresses.rt:112:1
 returns-4 : tie.Need-returns-4
 returns-4 c = rw (c .result .ensures, c .before .cell-at .ensures, c .before .before .memory-address .ensures, le-leb _ _ (c .before .before .before .before .before .before .before .before .if1 .left), c .before .before .before .before .before .before .if2 .left, sym (c .before .before .before .before .inside .ensures) ∙ not-false _ (c .before .before .before .if3 .left))
 

@@ -1,42 +1,30 @@
+-- `machine::addresses::on_push_off` meets its contract. Assumes nothing.
 use Rattle.machine.proofs.Reach.{frame-in, frame-out, frame-below, frame-at}
 use borrow.Author.Needs.{needs}
 use Rattle.machine.proofs.addresses.on_push_off.Statement.{statement}
 use Rattle.machine.proofs.addresses.on_push_off.Tie as tie
-use Rattle.machine.proofs.addresses.on_push_off.Reads as reads
-use Rattle.machine.proofs.addresses.on_push_off.Lts as lts
-use Rattle.machine.proofs.addresses.cell_at.Reads as cell-at-reads
-use Rattle.machine.proofs.addresses.moved_by.Reads as moved-by-reads
-use Rattle.machine.proofs.effects.result.Reads as result-reads
 
--- src/addresses.rt:151:9
 moved-by-requires : tie.Need-moved-by-requires
 moved-by-requires c κs = search needs
 
--- src/addresses.rt:153:19
 enum-known-to : tie.Need-enum-known-to
 enum-known-to c = search needs
 
--- src/addresses.rt:155:61
 cell-at-requires : tie.Need-cell-at-requires
 cell-at-requires c κs = search needs
 
--- src/addresses.rt:155:39
 result-requires : tie.Need-result-requires
 result-requires c κs = search needs
 
--- src/addresses.rt:155:17
 returns : tie.Need-returns
 returns c = rw (c .result .ensures, c .before .cell-at .ensures, frame-in (c .before .before .before .before .before .before .before .before .before .before .before .args .r) (c .before .before .before .before .before .before .before .before .before .before .before .args .offset) (c .before .before .before .before .before .before .before .before .before .before .before .args .r .sp) (c .before .before .before .before .before .before .to .given .0 .0) (rw (c .before .before .before .before .before .before .to .given .1) at (c .before .before .before .before .before .before .before .before .moved-by .ensures)) (c .before .before .if1 .taken), frame-at (c .before .before .before .before .before .before .before .before .before .before .before .args .r) (c .before .before .before .before .before .before .before .before .before .before .before .args .offset) (c .before .before .before .before .before .before .to .given .0 .0) (rw (c .before .before .before .before .before .before .to .given .1) at (c .before .before .before .before .before .before .before .before .moved-by .ensures)))
 
--- src/addresses.rt:159:43
 enum-told : tie.Need-enum-told
 enum-told c = search needs
 
--- src/addresses.rt:147:1
 returns-2 : tie.Need-returns-2
 returns-2 c = rw (frame-out (c .before .before .before .before .before .before .before .before .before .args .r) (c .before .before .before .before .before .before .before .before .before .args .offset) (c .before .before .before .before .before .before .before .before .before .args .r .sp) (c .before .before .before .before .to .given .0 .0) (rw (c .before .before .before .before .to .given .1) at (c .before .before .before .before .before .before .moved-by .ensures)) (c .if1 .left))
 
--- src/addresses.rt:147:1
 returns-3 : tie.Need-returns-3
 returns-3 c = rw (frame-below (c .before .before .before .before .before .args .r) (c .before .before .before .before .before .args .offset) (c .before .before .before .before .before .args .r .sp) (rw (c .enum-told .given .1) at (c .before .before .moved-by .ensures)))
 

@@ -1,43 +1,32 @@
+-- `machine::addresses::on_store_off` meets its contract. Assumes nothing.
 use Rattle.machine.proofs.Reach.{frame-in, frame-out, frame-below, frame-at}
 use borrow.Author.Tests.{lt-leb, le-leb}
 use Prim.Native.Nat.{_-_}
 use borrow.Author.Needs.{needs}
 use Rattle.machine.proofs.addresses.on_store_off.Statement.{statement}
 use Rattle.machine.proofs.addresses.on_store_off.Tie as tie
-use Rattle.machine.proofs.addresses.on_store_off.Reads as reads
-use Rattle.machine.proofs.addresses.on_store_off.Lts as lts
-use Rattle.machine.proofs.addresses.moved_by.Reads as moved-by-reads
-use Rattle.machine.proofs.effects.stored.Reads as stored-reads
 
--- src/addresses.rt:169:9
 returns : tie.Need-returns
 returns c = rw (lt-leb _ _ (c .if1 .taken))
 
--- src/addresses.rt:171:9
 moved-by-requires : tie.Need-moved-by-requires
 moved-by-requires c κs = search needs
 
--- src/addresses.rt:173:19
 enum-known-to : tie.Need-enum-known-to
 enum-known-to c = search needs
 
--- src/addresses.rt:175:39
 stored-requires : tie.Need-stored-requires
 stored-requires c κs = search needs
 
--- src/addresses.rt:175:17
 returns-2 : tie.Need-returns-2
 returns-2 c = rw (c .stored .ensures, le-leb _ _ (c .before .before .before .before .before .before .before .before .if1 .left), frame-in (c .before .before .before .before .before .before .before .before .before .before .args .r) (c .before .before .before .before .before .before .before .before .before .before .args .offset) (c .before .before .before .before .before .before .before .before .before .before .args .r .sp - 1) (c .before .before .before .before .before .to .given .0 .0) (rw (c .before .before .before .before .before .to .given .1) at (c .before .before .before .before .before .before .before .moved-by .ensures)) (c .before .if2 .taken), frame-at (c .before .before .before .before .before .before .before .before .before .before .args .r) (c .before .before .before .before .before .before .before .before .before .before .args .offset) (c .before .before .before .before .before .to .given .0 .0) (rw (c .before .before .before .before .before .to .given .1) at (c .before .before .before .before .before .before .before .moved-by .ensures)))
 
--- src/addresses.rt:179:43
 enum-told : tie.Need-enum-told
 enum-told c = search needs
 
--- src/addresses.rt:164:1
 returns-3 : tie.Need-returns-3
 returns-3 c = rw (le-leb _ _ (c .before .before .before .before .before .before .before .if1 .left), frame-out (c .before .before .before .before .before .before .before .before .before .args .r) (c .before .before .before .before .before .before .before .before .before .args .offset) (c .before .before .before .before .before .before .before .before .before .args .r .sp - 1) (c .before .before .before .before .to .given .0 .0) (rw (c .before .before .before .before .to .given .1) at (c .before .before .before .before .before .before .moved-by .ensures)) (c .if2 .left))
 
--- src/addresses.rt:164:1
 returns-4 : tie.Need-returns-4
 returns-4 c = rw (le-leb _ _ (c .before .before .before .if1 .left), frame-below (c .before .before .before .before .before .args .r) (c .before .before .before .before .before .args .offset) (c .before .before .before .before .before .args .r .sp - 1) (rw (c .enum-told .given .1) at (c .before .before .moved-by .ensures)))
 

@@ -1,20 +1,16 @@
+-- `machine::addresses::tag_at` meets its contract. Assumes nothing.
 use lib.ListN.{List·getD-eq-default}
 use mathlib.Core.Path.{refl, sym}
 use borrow.Author.Needs.{needs}
 use Rattle.machine.proofs.addresses.tag_at.Statement.{statement}
 use Rattle.machine.proofs.addresses.tag_at.Tie as tie
-use Rattle.machine.proofs.addresses.tag_at.Reads as reads
-use Rattle.machine.proofs.addresses.tag_at.Lts as lts
 
--- src/addresses.rt:67:9
 returns : tie.Need-returns
 returns c = sym (List·getD-eq-default (c .before .args .tags .now) 0 (c .if1 .taken))
 
--- src/addresses.rt:69:5
 shared-slice-read-result : tie.Need-shared-slice-read-result
 shared-slice-read-result c = search needs
 
--- src/addresses.rt:63:1
 returns-2 : tie.Need-returns-2
 returns-2 c = search needs
 

@@ -1,14 +1,11 @@
+-- `machine::families::agree` meets its contract. Assumes nothing.
 use borrow.Author.Tests.{ne-eqb, eq-eqb}
 use Rattle.machine.proofs.families.agree.Statement.{statement}
 use Rattle.machine.proofs.families.agree.Tie as tie
-use Rattle.machine.proofs.families.agree.Reads as reads
-use Rattle.machine.proofs.families.agree.Lts as lts
 
--- src/families.rt:145:9
 returns : tie.Need-returns
 returns c = rw (ne-eqb _ _ (c .if1 .taken))
 
--- src/families.rt:141:1
 returns-2 : tie.Need-returns-2
 returns-2 c = rw (eq-eqb _ _ (c .before .before .if1 .left))
 

@@ -1,43 +1,31 @@
+-- `machine::families::on_compare_floats` meets its contract. Assumes nothing.
 use mathlib.Core.Path.{sym, _∙_}
 use borrow.Author.Needs.{needs}
 use borrow.Author.Tests.{lt-leb, le-leb, ne-eqb, not-true, not-false}
 use Rattle.machine.proofs.families.on_compare_floats.Statement.{statement}
 use Rattle.machine.proofs.families.on_compare_floats.Tie as tie
-use Rattle.machine.proofs.families.on_compare_floats.Reads as reads
-use Rattle.machine.proofs.families.on_compare_floats.Lts as lts
-use Rattle.machine.proofs.effects.result.Reads as result-reads
-use Rattle.word.proofs.floats.ordered_f.Reads as ordered-f-reads
-use Rattle.word.proofs.floats.unordered.Reads as unordered-reads
 
--- src/families.rt:111:9
 returns : tie.Need-returns
 returns c = rw (lt-leb _ _ (c .if1 .taken))
 
--- src/families.rt:114:9
 returns-2 : tie.Need-returns-2
 returns-2 c = rw (le-leb _ _ (c .before .before .if1 .left), ne-eqb _ _ (c .if2 .taken))
 
--- src/families.rt:117:9
 returns-3 : tie.Need-returns-3
 returns-3 c = rw (le-leb _ _ (c .before .before .before .before .if1 .left), c .before .before .if2 .left, ne-eqb _ _ (c .if3 .taken))
 
--- src/families.rt:119:8
 unordered-requires : tie.Need-unordered-requires
 unordered-requires c κs = search needs
 
--- src/families.rt:120:9
 returns-4 : tie.Need-returns-4
 returns-4 c = rw (le-leb _ _ (c .before .before .before .before .before .before .if1 .left), c .before .before .before .before .if2 .left, c .before .before .if3 .left, sym (c .before .unordered .ensures) ∙ c .if4 .taken)
 
--- src/families.rt:122:9
 ordered-f-requires : tie.Need-ordered-f-requires
 ordered-f-requires c κs = search needs
 
--- src/families.rt:123:20
 result-requires : tie.Need-result-requires
 result-requires c κs = search needs
 
--- src/families.rt:106:1
 returns-5 : tie.Need-returns-5
 returns-5 c = rw (c .result .ensures, c .before .ordered-f .ensures, le-leb _ _ (c .before .before .before .before .before .before .before .before .if1 .left), c .before .before .before .before .before .before .if2 .left, c .before .before .before .before .if3 .left, sym (c .before .before .before .unordered .ensures) ∙ c .before .before .if4 .left)
 

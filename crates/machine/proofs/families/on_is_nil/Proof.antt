@@ -1,25 +1,18 @@
+-- `machine::families::on_is_nil` meets its contract. Assumes nothing.
 use borrow.Author.Needs.{needs}
 use borrow.Author.Tests.{lt-leb, le-leb, ne-eqb, not-true, not-false}
 use Rattle.machine.proofs.families.on_is_nil.Statement.{statement}
 use Rattle.machine.proofs.families.on_is_nil.Tie as tie
-use Rattle.machine.proofs.families.on_is_nil.Reads as reads
-use Rattle.machine.proofs.families.on_is_nil.Lts as lts
-use Rattle.machine.proofs.effects.result.Reads as result-reads
-use Rattle.word.proofs.tests.is_nil.Reads as is-nil-reads
 
--- src/families.rt:166:9
 returns : tie.Need-returns
 returns c = rw (lt-leb _ _ (c .if1 .taken))
 
--- src/families.rt:168:9
 is-nil-requires : tie.Need-is-nil-requires
 is-nil-requires c κs = search needs
 
--- src/families.rt:169:20
 result-requires : tie.Need-result-requires
 result-requires c κs = search needs
 
--- src/families.rt:161:1
 returns-2 : tie.Need-returns-2
 returns-2 c = rw (c .result .ensures, c .before .is-nil .ensures, le-leb _ _ (c .before .before .if1 .left))
 

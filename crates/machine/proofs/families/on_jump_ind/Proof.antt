@@ -1,28 +1,21 @@
+-- `machine::families::on_jump_ind` meets its contract. Assumes nothing.
 use borrow.Author.Needs.{needs}
 use borrow.Author.Tests.{lt-leb, le-leb, ne-eqb, not-true, not-false}
 use Rattle.machine.proofs.families.on_jump_ind.Statement.{statement}
 use Rattle.machine.proofs.families.on_jump_ind.Tie as tie
-use Rattle.machine.proofs.families.on_jump_ind.Reads as reads
-use Rattle.machine.proofs.families.on_jump_ind.Lts as lts
-use Rattle.machine.proofs.effects.jumped.Reads as jumped-reads
 
--- src/families.rt:228:9
 returns : tie.Need-returns
 returns c = rw (lt-leb _ _ (c .if1 .taken))
 
--- src/families.rt:231:9
 returns-2 : tie.Need-returns-2
 returns-2 c = rw (le-leb _ _ (c .before .before .if1 .left), ne-eqb _ _ (c .if2 .taken))
 
--- src/families.rt:233:57
 cast-t7 : tie.Need-cast-t7
 cast-t7 c = search needs
 
--- src/families.rt:233:20
 jumped-requires : tie.Need-jumped-requires
 jumped-requires c κs = search needs
 
--- src/families.rt:223:1
 returns-3 : tie.Need-returns-3
 returns-3 c = rw (c .jumped .ensures, le-leb _ _ (c .before .before .before .before .if1 .left), c .before .before .if2 .left)
 

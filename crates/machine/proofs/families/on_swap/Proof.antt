@@ -1,20 +1,15 @@
+-- `machine::families::on_swap` meets its contract. Assumes nothing.
 use borrow.Author.Needs.{needs}
 use borrow.Author.Tests.{lt-leb, le-leb, ne-eqb, not-true, not-false}
 use Rattle.machine.proofs.families.on_swap.Statement.{statement}
 use Rattle.machine.proofs.families.on_swap.Tie as tie
-use Rattle.machine.proofs.families.on_swap.Reads as reads
-use Rattle.machine.proofs.families.on_swap.Lts as lts
-use Rattle.machine.proofs.effects.swapped.Reads as swapped-reads
 
--- src/families.rt:25:9
 returns : tie.Need-returns
 returns c = rw (lt-leb _ _ (c .if1 .taken))
 
--- src/families.rt:27:20
 swapped-requires : tie.Need-swapped-requires
 swapped-requires c κs = search needs
 
--- src/families.rt:20:1
 returns-2 : tie.Need-returns-2
 returns-2 c = rw (c .swapped .ensures, le-leb _ _ (c .before .if1 .left))
 
