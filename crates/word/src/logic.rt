@@ -2,47 +2,45 @@
 ghost use mathlib.Core.Path.{_≡_};
 ghost use mathlib.Core.Bool.{not, _&&_, _||_};
 ghost use Rattle.rules.specs.Words.{bit, holds, logic, nand, nor, unlike};
-use crate::tests::bit;
-use crate::tests::holds;
 
 // AND
 pub fn and(b: u32, t: u32) -> u32
     ensures { λ r. ⌜ r ≡ logic _&&_ b t ⌝ }
 {
-    bit(holds(b) & holds(t))
+    ((b != 0) & (t != 0)) as u32
 }
 
 // OR
 pub fn or(b: u32, t: u32) -> u32
     ensures { λ r. ⌜ r ≡ logic _||_ b t ⌝ }
 {
-    bit(holds(b) | holds(t))
+    ((b != 0) | (t != 0)) as u32
 }
 
 // NAND
 pub fn nand(b: u32, t: u32) -> u32
     ensures { λ r. ⌜ r ≡ logic nand b t ⌝ }
 {
-    bit(!(holds(b) & holds(t)))
+    !((b != 0) & (t != 0)) as u32
 }
 
 // NOR
 pub fn nor(b: u32, t: u32) -> u32
     ensures { λ r. ⌜ r ≡ logic nor b t ⌝ }
 {
-    bit(!(holds(b) | holds(t)))
+    !((b != 0) | (t != 0)) as u32
 }
 
 // XOR
 pub fn xor(b: u32, t: u32) -> u32
     ensures { λ r. ⌜ r ≡ logic unlike b t ⌝ }
 {
-    bit(holds(b) ^ holds(t))
+    ((b != 0) ^ (t != 0)) as u32
 }
 
 // NOT
 pub fn not(t: u32) -> u32
     ensures { λ r. ⌜ r ≡ bit (not (holds t)) ⌝ }
 {
-    bit(!holds(t))
+    !(t != 0) as u32
 }
