@@ -1,8 +1,8 @@
 -- `word::logic::xor` meets its contract. Assumes nothing.
+use borrow.Author.Needs.{needs}
 use mathlib.Core.Path.{ap}
 use Rattle.rules.specs.Words.{bit, holds}
 use Rattle.word.proofs.Unlike.{unlike-is}
-use borrow.Author.Needs.{needs}
 use Rattle.word.proofs.logic.xor.Statement.{statement}
 use Rattle.word.proofs.logic.xor.Tie as tie
 
