@@ -54,7 +54,7 @@ pub(crate) fn sense(less: bool, greater: bool) -> u32
     0
 }
 
-// CMP
+// CMP: how the numbers of b and t are ordered.
 pub fn ordered(b: u32, t: u32) -> u32
     ensures { λ r. ⌜ r ≡ ordered b t ⌝ }
 {
