@@ -1,0 +1,213 @@
+-- Laws of `tokens` at an offset of a source: what stands there decides where the tokens go on.
+-- Assumes nothing.
+use mathlib.Core.Path.{_≡_, refl, ap, sym, _∙_}
+use mathlib.Core.Bool.{Bool, true, false, not, _&&_, _||_, true≢false}
+use lib.Dec.{ltb, eqb}
+use borrow.Author.Tests.{ltb-true, ltb-false, eq-eqb, ne-eqb}
+use mathlib.Core.List.{List, [], _∷_, _++_}
+use Prim.Native.Nat.{ℕ, suc, _+_, _-_, _≤_, _<_}
+use native.Mathlib.Omega.{arith}
+use lib.ListN.{length, drop, getD, drop-of-length-le}
+use Rattle.rules.proofs.Tests.{drop-next, and-left, and-right}
+use Rattle.rules.specs.Bytes.{blank}
+use Rattle.rules.specs.Tokens.{Token, opens, stops, last, extend, tokens, comment}
+use Rattle.tokens.specs.Next.{from, inside, between, Ended}
+
+or-true : (a : Bool) → (a || true) ≡ true
+or-true true = refl
+or-true false = refl
+
+or-left : (a b : Bool) → (a || b) ≡ false → a ≡ false
+or-left false b h = refl
+or-left true b h = h
+
+or-right : (a b : Bool) → (a || b) ≡ false → b ≡ false
+or-right false b h = h
+or-right true b h = absurd (true≢false h)
+
+pub tokens-blank : (at b : ℕ) (s : List ℕ) → blank b ≡ true → tokens at (b ∷ s) ≡ tokens (at + 1) s
+unfolding tokens
+tokens-blank at b s h = rw h
+
+pub tokens-comment : (at b : ℕ) (s : List ℕ) → blank b ≡ false → opens (b ∷ s) ≡ true → tokens at (b ∷ s) ≡ comment (at + 1) s
+unfolding tokens
+tokens-comment at b s h k = rw (h, k)
+
+pub tokens-last : (at b : ℕ) (s : List ℕ) → stops (b ∷ s) ≡ false → last b s ≡ true → tokens at (b ∷ s) ≡ record { at = at; text = b ∷ [] } ∷ tokens (at + 1) s
+unfolding tokens stops
+tokens-last at b s h k = rw (or-left (blank b) (opens (b ∷ s)) h, or-right (blank b) (opens (b ∷ s)) h, k)
+
+pub tokens-more : (at b : ℕ) (s : List ℕ) → stops (b ∷ s) ≡ false → last b s ≡ false → tokens at (b ∷ s) ≡ extend at b (tokens (at + 1) s)
+unfolding tokens stops
+tokens-more at b s h k = rw (or-left (blank b) (opens (b ∷ s)) h, or-right (blank b) (opens (b ∷ s)) h, k)
+
+module _ (src : List ℕ) (i : ℕ) where
+  pub from-end : length src ≤ i → from src i ≡ []
+  unfolding from tokens
+  from-end h = rw (drop-of-length-le src h)
+
+  pub from-blank : i < length src → blank (getD src i 0) ≡ true → from src i ≡ from src (i + 1)
+  unfolding from
+  from-blank h k = ap (tokens i) (drop-next src i h) ∙ tokens-blank i (getD src i 0) (drop (i + 1) src) k
+
+  pub from-comment : i < length src → blank (getD src i 0) ≡ false → opens (drop i src) ≡ true → from src i ≡ inside src (i + 1)
+  unfolding from inside
+  from-comment h k l =
+      ap (tokens i) (drop-next src i h) ∙ tokens-comment i (getD src i 0) (drop (i + 1) src) k (rw (drop-next src i h) at l)
+
+  pub inside-end : length src ≤ i → inside src i ≡ []
+  unfolding inside comment
+  inside-end h = rw (drop-of-length-le src h)
+
+  pub inside-lf : i < length src → getD src i 0 ≡ 10 → inside src i ≡ from src (i + 1)
+  unfolding from inside comment
+  inside-lf h k = ap (comment i) (drop-next src i h) ∙ rw (eq-eqb (getD src i 0) 10 k)
+
+  pub inside-more : i < length src → (getD src i 0 ≡ 10 → ⊥) → inside src i ≡ inside src (i + 1)
+  unfolding inside comment
+  inside-more h k = ap (comment i) (drop-next src i h) ∙ rw (ne-eqb (getD src i 0) 10 k)
+
+  pub part-one : i < length src → between src i (i + 1) ≡ getD src i 0 ∷ []
+  unfolding between
+  part-one h =
+      let e : i + 1 - i ≡ 1 = omega arith in
+      rw (drop-next src i h, e)
+
+  pub part-more : (e : ℕ) → i < e → i < length src → between src i e ≡ getD src i 0 ∷ between src (i + 1) e
+  unfolding between
+  part-more e h k =
+      let q : e - i ≡ suc (e - (i + 1)) = omega arith in
+      rw (drop-next src i k, q)
+
+  pub ended-last : i < length src → stops (drop i src) ≡ false → last (getD src i 0) (drop (i + 1) src) ≡ true → Ended src i (i + 1)
+  unfolding from
+  ended-last h k l =
+      record {
+        low = omega arith;
+        high = omega arith;
+        first =
+            rw (part-one h)
+            (ap (tokens i) (drop-next src i h) ∙ tokens-last i (getD src i 0) (drop (i + 1) src) (rw (drop-next src i h) at k) l);
+      }
+
+  pub ended-more : i < length src → stops (drop i src) ≡ false → last (getD src i 0) (drop (i + 1) src) ≡ false → (e : ℕ) → Ended src (i + 1) e → Ended src i e
+  unfolding from extend
+  ended-more h k l e t =
+      record {
+        low = omega arith;
+        high = t .high;
+        first =
+            rw (part-more e (omega arith) h)
+            (ap (tokens i) (drop-next src i h)
+            ∙ tokens-more i (getD src i 0) (drop (i + 1) src) (rw (drop-next src i h) at k) l
+            ∙ ap (extend i (getD src i 0)) (t .first));
+      }
+
+  pub stops-end : length src ≤ i → stops (drop i src) ≡ true
+  unfolding stops
+  stops-end h = rw (drop-of-length-le src h)
+
+  pub stops-here : i < length src → stops (drop i src) ≡ (blank (getD src i 0) || opens (drop i src))
+  unfolding stops
+  stops-here h = rw (drop-next src i h)
+
+  pub opens-none : i < length src → (getD src i 0 ≡ 47 → ⊥) → opens (drop i src) ≡ false
+  unfolding opens
+  opens-none h k = ap opens (drop-next src i h) ∙ go (drop (i + 1) src)
+    where
+      go : (s : List ℕ) → opens (getD src i 0 ∷ s) ≡ false
+      go [] = refl
+      go (b ∷ s) = rw (ne-eqb (getD src i 0) 47 k)
+
+  pub opens-short : i < length src → length src ≤ i + 1 → opens (drop i src) ≡ false
+  unfolding opens
+  opens-short h k = rw (drop-next src i h, drop-of-length-le src k)
+
+pub opens-two : (src : List ℕ) (i : ℕ) → i + 1 < length src → getD src i 0 ≡ 47 → opens (drop i src) ≡ eqb (getD src (i + 1) 0) 47
+unfolding opens
+opens-two src i h k =
+    let l : i < length src = omega arith in
+    rw (drop-next src i l, drop-next src (i + 1) h, k)
+
+pub last-colon : (b : ℕ) (s : List ℕ) → b ≡ 58 → last b s ≡ true
+unfolding last
+last-colon b s h = rw (eq-eqb b 58 h)
+
+pub last-other : (b : ℕ) (s : List ℕ) → (b ≡ 58 → ⊥) → last b s ≡ stops s
+unfolding last
+last-other b s h = rw (ne-eqb b 58 h)
+
+pub stops-blank : (src : List ℕ) (i : ℕ) → i < length src → blank (getD src i 0) ≡ true → stops (drop i src) ≡ true
+stops-blank src i h k = stops-here src i h ∙ rw k
+
+pub stops-other : (src : List ℕ) (i : ℕ) → i < length src → blank (getD src i 0) ≡ false → stops (drop i src) ≡ opens (drop i src)
+stops-other src i h k = stops-here src i h ∙ rw k
+
+pub stops-in : (src : List ℕ) (i : ℕ) → stops (drop i src) ≡ false → i < length src
+stops-in src i h = go (ltb i (length src)) refl
+  where
+    go : (b : Bool) → ltb i (length src) ≡ b → i < length src
+    go true e = ltb-true i (length src) e
+    go false e = absurd (true≢false (sym (stops-end src i (ltb-false i (length src) e)) ∙ h))
+
+-- a byte of a token that neither ends it nor can open a comment
+unfoldable pub plain : ℕ → Bool
+plain b = not (blank b || eqb b 47 || eqb b 58)
+
+unfoldable pub allPlain : List ℕ → Bool
+allPlain [] = true
+allPlain (b ∷ s) = plain b && allPlain s
+
+not-or : (a b c : Bool) → not (a || b || c) ≡ true → (a ≡ false) × (b ≡ false) × (c ≡ false)
+not-or true b c h = (cc h, cc h, cc h)
+not-or false true c h = (cc h, cc h, cc h)
+not-or false false true h = (cc h, cc h, cc h)
+not-or false false false h = (refl, refl, refl)
+
+plain-parts : (b : ℕ) → plain b ≡ true → (blank b ≡ false) × (eqb b 47 ≡ false) × (eqb b 58 ≡ false)
+unfolding plain
+plain-parts b h = not-or (blank b) (eqb b 47) (eqb b 58) h
+
+plain-stops : (b : ℕ) (s : List ℕ) → plain b ≡ true → stops (b ∷ s) ≡ false
+unfolding stops opens
+plain-stops b [] h = rw (plain-parts b h .0)
+plain-stops b (a ∷ s) h = rw (plain-parts b h .0, plain-parts b h .1)
+
+last-stop : (b : ℕ) (s : List ℕ) → stops s ≡ true → last b s ≡ true
+unfolding last
+last-stop b s h = rw h (or-true (eqb b 58))
+
+last-go : (b a : ℕ) (s : List ℕ) → plain b ≡ true → plain a ≡ true → last b (a ∷ s) ≡ false
+unfolding last
+last-go b a s h k = rw (plain-parts b h .2, plain-stops a s k)
+
+extend-word : (at n b : ℕ) (w : List ℕ) (ts : List Token) → extend at b (record { at = n; text = w } ∷ ts) ≡ record { at = at; text = b ∷ w } ∷ ts
+unfolding extend
+extend-word at n b w ts = refl
+
+-- plain bytes before what ends a token are one token
+pub tokens-word : (at b : ℕ) (w rest : List ℕ) → allPlain (b ∷ w) ≡ true → stops rest ≡ true → tokens at (b ∷ (w ++ rest)) ≡ record { at = at; text = b ∷ w } ∷ tokens (at + length (b ∷ w)) rest
+unfolding allPlain
+tokens-word at b [] rest h k =
+    let p = and-left (plain b) true h in
+    tokens-last at b rest (plain-stops b rest p) (last-stop b rest k)
+tokens-word at b (a ∷ w) rest h k =
+    let p = and-left (plain b) (allPlain (a ∷ w)) h in
+    let r = and-right (plain b) (allPlain (a ∷ w)) h in
+    let q = and-left (plain a) (allPlain w) r in
+    let e : at + 1 + length (a ∷ w) ≡ at + length (b ∷ a ∷ w) = omega arith in
+    tokens-more at b (a ∷ (w ++ rest)) (plain-stops b (a ∷ (w ++ rest)) p) (last-go b a (w ++ rest) p q)
+    ∙ ap (extend at b) (tokens-word (at + 1) a w rest r k)
+    ∙ extend-word at (at + 1) b (a ∷ w) (tokens (at + 1 + length (a ∷ w)) rest)
+    ∙ ap (λ (n : ℕ). record { at = at; text = b ∷ a ∷ w } ∷ tokens n rest) e
+
+-- a line of a listing: a name, a space, an operand, a LF
+pub tokens-line : (at b d : ℕ) (w v rest : List ℕ) → allPlain (b ∷ w) ≡ true → allPlain (d ∷ v) ≡ true → tokens at (b ∷ (w ++ 32 ∷ d ∷ (v ++ 10 ∷ rest))) ≡ record { at = at; text = b ∷ w } ∷ record { at = at + length (b ∷ w) + 1; text = d ∷ v } ∷ tokens (at + length (b ∷ w) + 1 + length (d ∷ v) + 1) rest
+unfolding stops blank
+tokens-line at b d w v rest h k =
+    tokens-word at b w (32 ∷ d ∷ (v ++ 10 ∷ rest)) h refl
+    ∙ ap (λ (ts : List Token). record { at = at; text = b ∷ w } ∷ ts)
+    (tokens-blank (at + length (b ∷ w)) 32 (d ∷ (v ++ 10 ∷ rest)) refl
+    ∙ tokens-word (at + length (b ∷ w) + 1) d v (10 ∷ rest) k refl
+    ∙ ap (λ (ts : List Token). record { at = at + length (b ∷ w) + 1; text = d ∷ v } ∷ ts)
+    (tokens-blank (at + length (b ∷ w) + 1 + length (d ∷ v)) 10 rest refl))
