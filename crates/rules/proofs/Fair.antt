@@ -1,12 +1,18 @@
 -- What an effect has to be, so that what it makes of a sound state is sound again: the statements that step, run and step-back lean on.
 -- Assumes nothing.
-use Prim.Native.Nat.{ℕ, _+_, _^_, _≤_, _<_}
+use Prim.Native.Nat.{ℕ, _+_, _-_, _^_, _≤_, _<_}
 use mathlib.Core.Path.{_≡_}
-use lib.ListN.{getD}
-use Rattle.rules.specs.Table.{Program}
+use mathlib.Core.Bool.{true}
+use mathlib.Core.List.{List}
+use lib.ListN.{getD, length, drop, replicate}
+use Rattle.rules.specs.Sizes.{maxCells, maxHistory}
+use Rattle.rules.specs.Table.{Program, soundTable}
 use Rattle.rules.specs.Tags.{PA}
 use Rattle.rules.specs.State.{Memory}
+use Rattle.rules.specs.Commit.{roomFor}
+use Rattle.rules.specs.Step.{decideAt}
 use Rattle.rules.specs.declared.Cell.{Cell}
+use Rattle.rules.specs.declared.Decision.the-variants.{Does}
 use Rattle.rules.specs.declared.Effect.{Effect}
 use Rattle.rules.specs.declared.Registers.{Registers}
 
@@ -14,6 +20,34 @@ use Rattle.rules.specs.declared.Registers.{Registers}
 pub record FairCell (count : ℕ) (c : Cell) : Type 0 where
   pub tag : c .tag ≤ 3
   pub pa : c .tag ≡ PA → c .bits ≤ count
+
+-- each cell of these tags and bits; past their end there is INT 0
+abbrev pub FairCells : ℕ → List ℕ → List ℕ → Type 0
+FairCells count ts bs = (k : ℕ) → FairCell count (record { bits = getD bs k 0; tag = getD ts k 0 })
+
+-- what the tests of a sound state say, each by its name
+pub record Sound (p : Program) (r : Registers) (m : Memory) : Type 0 where
+  pub table : soundTable p ≡ true
+  pub some : 1 ≤ r .n
+  pub few : r .n ≤ maxCells
+  pub short : r .h ≤ maxHistory
+  pub bits : length (m .bits) ≡ r .n
+  pub tags : length (m .tags) ≡ r .n
+  pub history : length (m .history) ≡ r .h
+  pub sp : r .sp < r .n
+  pub fbr : r .fbr < r .n
+  pub pc : r .pc ≤ p .count
+  pub halt : r .halt ≤ 1
+  pub used : r .used ≤ r .h
+  pub cells : FairCells (p .count) (m .tags) (m .bits)
+
+-- what is so where a step is accepted with the effect e
+pub record Going (p : Program) (r : Registers) (m : Memory) (e : Effect) : Type 0 where
+  pub running : r .halt ≡ 0
+  pub inside : r .pc ≡ p .count → ⊥
+  pub sp : e .sp < r .n
+  pub room : roomFor r e ≡ true
+  pub decides : decideAt r m (getD (p .places) (r .pc) 0) ≡ Does e
 
 -- the written cells lie within N, the new registers within their ranges, and the written cells may be held
 pub record Fair (p : Program) (r : Registers) (e : Effect) : Type 0 where
@@ -28,3 +62,7 @@ pub record Fair (p : Program) (r : Registers) (e : Effect) : Type 0 where
 -- every cell has 32 bits, as every lent slice of them has
 abbrev pub Narrow : Memory → Type 0
 Narrow m = (k : ℕ) → getD (m .bits) k 0 < 2 ^ 32
+
+-- the places that no record uses are zero, as a reset leaves them
+abbrev pub Blank : Registers → Memory → Type 0
+Blank r m = drop (r .used) (m .history) ≡ replicate (r .h - r .used) 0

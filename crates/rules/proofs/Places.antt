@@ -2,7 +2,6 @@
 use Prim.Native.Nat.{ℕ, _+_, _*_, _/_, _%_, _^_, _<_}
 use mathlib.Core.Path.{_≡_, refl, sym, ap, _∙_}
 use mathlib.Core.List.{List, _++_}
-use native.Mathlib.Nat.{mod-eq-of-lt}
 use native.Mathlib.Omega.{arith}
 use Rattle.rules.specs.Lists.{part}
 use Rattle.rules.specs.Fields.{field, value}
@@ -58,21 +57,28 @@ stepZeros-is p = read-is 42 22 0 p refl
 
 -- ---- the two places
 
-fields5 : (a t b : ℕ) → a < 2 ^ 10 → t < 2 ^ 2 → b < 2 ^ 32
-    → value (field 1 0 ++ field 10 a ++ field 2 t ++ field 32 b ++ field 19 0) ≡ a * 2 ^ 53 + t * 2 ^ 51 + b * 2 ^ 19
-fields5 a t b ha ht hb =
-    simp (value-append, field-length, value-field, mod-eq-of-lt ha, mod-eq-of-lt ht, mod-eq-of-lt hb) (omega arith)
+-- for all numbers: of one that does not fit, its low bits
+fields5 : (a t b : ℕ) → value (field 1 0 ++ field 10 a ++ field 2 t ++ field 32 b ++ field 19 0)
+    ≡ a % 2 ^ 10 * 2 ^ 53 + t % 2 ^ 2 * 2 ^ 51 + b % 2 ^ 32 * 2 ^ 19
+fields5 a t b = simp (value-append, field-length, value-field) (omega arith)
 
-fields6 : (pc sp fbr k : ℕ) → pc < 2 ^ 11 → sp < 2 ^ 10 → fbr < 2 ^ 10 → k < 2 ^ 10
+fields6 : (pc sp fbr k : ℕ)
     → value (field 1 1 ++ field 11 pc ++ field 10 sp ++ field 10 fbr ++ field 10 k ++ field 22 0)
-    ≡ 2 ^ 63 + pc * 2 ^ 52 + sp * 2 ^ 42 + fbr * 2 ^ 32 + k * 2 ^ 22
-fields6 pc sp fbr k hp hs hf hk =
-    simp (value-append, field-length, value-field, mod-eq-of-lt hp, mod-eq-of-lt hs, mod-eq-of-lt hf, mod-eq-of-lt hk) (omega arith)
+    ≡ 2 ^ 63 + pc % 2 ^ 11 * 2 ^ 52 + sp % 2 ^ 10 * 2 ^ 42 + fbr % 2 ^ 10 * 2 ^ 32 + k % 2 ^ 10 * 2 ^ 22
+fields6 pc sp fbr k = simp (value-append, field-length, value-field) (omega arith)
+
+pub cellPlace-low : (a t b : ℕ) → cellPlace a t b ≡ a % 2 ^ 10 * 2 ^ 53 + t % 2 ^ 2 * 2 ^ 51 + b % 2 ^ 32 * 2 ^ 19
+unfolding cellPlace
+cellPlace-low a t b = fields5 a t b
+
+pub stepPlace-low : (pc sp fbr k : ℕ)
+    → stepPlace pc sp fbr k ≡ 2 ^ 63 + pc % 2 ^ 11 * 2 ^ 52 + sp % 2 ^ 10 * 2 ^ 42 + fbr % 2 ^ 10 * 2 ^ 32 + k % 2 ^ 10 * 2 ^ 22
+unfolding stepPlace
+stepPlace-low pc sp fbr k = fields6 pc sp fbr k
 
 module _ (a t b : ℕ) (ha : a < 2 ^ 10) (ht : t < 2 ^ 2) (hb : b < 2 ^ 32) where
   pub cellPlace-is : cellPlace a t b ≡ a * 2 ^ 53 + t * 2 ^ 51 + b * 2 ^ 19
-  unfolding cellPlace
-  cellPlace-is = fields5 a t b ha ht hb
+  cellPlace-is = cellPlace-low a t b ∙ omega arith
 
   pub cellAddress-of : cellAddress (cellPlace a t b) ≡ a
   cellAddress-of = rw (cellPlace-is, cellAddress-is) (omega arith)
@@ -91,8 +97,7 @@ module _ (a t b : ℕ) (ha : a < 2 ^ 10) (ht : t < 2 ^ 2) (hb : b < 2 ^ 32) wher
 
 module _ (pc sp fbr k : ℕ) (hp : pc < 2 ^ 11) (hs : sp < 2 ^ 10) (hf : fbr < 2 ^ 10) (hk : k < 2 ^ 10) where
   pub stepPlace-is : stepPlace pc sp fbr k ≡ 2 ^ 63 + pc * 2 ^ 52 + sp * 2 ^ 42 + fbr * 2 ^ 32 + k * 2 ^ 22
-  unfolding stepPlace
-  stepPlace-is = fields6 pc sp fbr k hp hs hf hk
+  stepPlace-is = stepPlace-low pc sp fbr k ∙ omega arith
 
   pub stepPc-of : stepPc (stepPlace pc sp fbr k) ≡ pc
   stepPc-of = rw (stepPlace-is, stepPc-is) (omega arith)

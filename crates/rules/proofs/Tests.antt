@@ -1,15 +1,23 @@
--- The laws of tests over lists: `all`, `every` and `same`, for the loops and the early returns that make them. Assumes nothing.
+-- The laws of tests: two together, over lists (`all`, `every` and `same`, for the loops and the early returns that make them), and over the
+-- numbers below a bound. Assumes nothing.
 use Prim.Native.Nat.{ℕ, zero, suc, _+_, _≤_, _<_}
 use mathlib.Core.Path.{_≡_, refl, sym, ap, _∙_}
-use mathlib.Core.Bool.{Bool, true, false, _&&_, false≢true, and-false}
+use mathlib.Core.Bool.{Bool, true, false, _&&_, _||_, false≢true, true≢false, and-false}
 use mathlib.Core.List.{List, [], _∷_, _++_}
 use native.Mathlib.Nat.{not-suc-le-zero, le-of-suc-le-suc}
 use native.Mathlib.Numerals.{add-one}
+use native.Mathlib.Omega.{arith}
 use lib.ListN.{length, getD, drop, drop-of-length-le}
 use lib.Seq.{drop-cons}
 use lib.Dec.{eqb}
-use borrow.Author.Tests.{eq-eqb, eqb-true}
+use borrow.Author.Tests.{eq-eqb, eqb-true, eqb-false}
 use Rattle.rules.specs.Lists.{all, every, same}
+
+-- ---- one test, either way that it goes
+
+pub by-test : {P : Type 0} (b : Bool) → (b ≡ true → P) → (b ≡ false → P) → P
+by-test true f g = f refl
+by-test false f g = g refl
 
 -- ---- two tests
 
@@ -20,6 +28,14 @@ and-left false b h = absurd (false≢true h)
 pub and-right : (a b : Bool) → (a && b) ≡ true → b ≡ true
 and-right true b h = h
 and-right false b h = absurd (false≢true h)
+
+pub or-left : (a b : Bool) → (a || b) ≡ false → a ≡ false
+or-left true b h = absurd (true≢false h)
+or-left false b h = refl
+
+pub or-right : (a b : Bool) → (a || b) ≡ false → b ≡ false
+or-right true b h = absurd (true≢false h)
+or-right false b h = h
 
 -- ---- every test of a list
 
@@ -71,3 +87,18 @@ same-equal (x ∷ xs) [] h = absurd (false≢true h)
 same-equal (x ∷ xs) (y ∷ ys) h =
     ap (λ (z : ℕ). z ∷ xs) (eqb-true x y (and-left (eqb x y) (same xs ys) h))
     ∙ ap (λ (zs : List ℕ). y ∷ zs) (same-equal xs ys (and-right (eqb x y) (same xs ys) h))
+
+-- ---- one test of every number below a bound: a table's rule is computed once
+
+abbrev pub below : (ℕ → Bool) → ℕ → Bool
+below f zero = true
+below f (suc n) = f n && below f n
+
+pub at-below : (f : ℕ → Bool) (n : ℕ) → below f n ≡ true → (k : ℕ) → k < n → f k ≡ true
+at-below f zero t k h = absurd (not-suc-le-zero h)
+at-below f (suc n) t k h =
+    by-test (eqb k n)
+    (λ e. rw (eqb-true k n e) (and-left (f n) (below f n) t))
+    (λ e.
+    let d : k ≡ n → ⊥ = eqb-false k n e in
+    at-below f n (and-right (f n) (below f n) t) k (omega arith))

@@ -1,0 +1,158 @@
+"""The calls of include/sam.h as sam/ answers them, beside the driver's lines that make them.
+
+A Script collects the lines and, for each line that makes a call, the answer line that the driver must print.
+"""
+
+from collections import Counter
+from itertools import groupby
+
+import sam
+
+MARK = 0xA5  # the byte that lent memory holds before a call
+PLACES = 1024
+TEXT_BYTES = 20480
+IMAGE_BYTES = 4866
+
+
+def marked(count, width):
+    """Lent memory that nothing was written to."""
+    return [int.from_bytes(bytes([MARK] * width), "big")] * count
+
+
+def list_word(values):
+    """A list as one word of a line: items `value` or `value*count`, a comma between; `-` for none."""
+    items = []
+    for value, group in groupby(values):
+        count = sum(1 for _ in group)
+        items.append(f"{value}*{count}" if count > 1 else str(value))
+    return ",".join(items) or "-"
+
+
+def bytes_word(data):
+    return bytes(data).hex() or "-"
+
+
+def output_word(data):
+    """Bytes up to the last that is not zero, then `+` and the count of zeros behind them."""
+    kept = bytes(data).rstrip(b"\0")
+    return f"{kept.hex()}+{len(data) - len(kept)}"
+
+
+class Script:
+    def __init__(self):
+        self.lines = []  # (line, the answer or None)
+        self.numbers = Counter()  # of each call's answers
+        self.calls = Counter()
+
+    def say(self, line):
+        self.lines.append((line, None))
+
+    def call(self, line, number, parts):
+        """A line that makes a call, and its answer: the number, then names and words."""
+        self.numbers[number] += 1
+        self.calls[line.split(" ", 1)[0]] += 1
+        self.lines.append((line, " ".join([str(number)] + [f"{name} {word}" for name, word in parts])))
+
+    # ---- bytes to a table
+
+    def assemble(self, source, places=PLACES, told_length=2):
+        table, told, number = marked(places, 8), marked(told_length, 8), 31
+        if told_length == 2:
+            number, *told = sam.assemble(source, table)
+        self.call_reading("assemble", source, table, told, number)
+        return number, table, told
+
+    def unpack(self, image, places=PLACES, told_length=1):
+        table, told, number = marked(places, 8), marked(told_length, 8), 31
+        if told_length == 1:
+            number, *told = sam.unpack(image, table)
+        self.call_reading("unpack", image, table, told, number)
+        return number, table, told
+
+    def call_reading(self, name, data, table, told, number):
+        line = f"{name} {len(table)} {len(told)} {bytes_word(data)}"
+        self.call(line, number, [("told", list_word(told)), ("table", list_word(table))])
+
+    # ---- a table to bytes
+
+    def program(self, program):
+        self.say(f"program {program.length} {list_word(program.table)}")
+
+    def list(self, program, size=TEXT_BYTES, told_length=1):
+        return self.call_writing("list", sam.list_program, program, size, told_length)
+
+    def pack(self, program, size=IMAGE_BYTES, told_length=1):
+        return self.call_writing("pack", sam.pack, program, size, told_length)
+
+    def call_writing(self, name, writer, program, size, told_length):
+        output, told, number = bytearray([MARK] * size), marked(told_length, 8), 31
+        if told_length == 1:
+            number, *told = writer(program.table, program.length, output)
+        line = f"{name} {size} {told_length}"
+        self.call(line, number, [("told", list_word(told)), ("bytes", output_word(output))])
+        return bytes(output[: told[0]]) if number == 0 else b""
+
+
+def seven(registers):
+    r = registers
+    return [r.n, r.h, r.pc, r.sp, r.fbr, r.halt, r.used]
+
+
+class LentMachine:
+    """A machine of the driver and the same machine in sam/."""
+
+    def __init__(self, script, program, state, registers_length=7):
+        self.script, self.program, self.state = script, program, state
+        self.registers_length = registers_length
+        script.program(program)
+        self.lend()
+
+    def registers_word(self):
+        """The registers as lent: seven, or another count where the case is about that."""
+        values = seven(self.state.registers) + [0]
+        return list_word(values[: self.registers_length])
+
+    def lend(self):
+        """Gives the driver the state as it stands here."""
+        self.script.say(f"registers {self.registers_word()}")
+        self.script.say(f"bits {list_word(self.state.bits)}")
+        self.script.say(f"tags {list_word(self.state.tags)}")
+        self.script.say(f"history {list_word(self.state.history)}")
+
+    def answer(self, line, number, told):
+        self.script.call(
+            line,
+            number,
+            [
+                ("told", list_word(told)),
+                ("registers", self.registers_word()),
+                ("bits", list_word(self.state.bits)),
+                ("tags", list_word(self.state.tags)),
+                ("history", list_word(self.state.history)),
+            ],
+        )
+        return number
+
+    def machine_call(self, word, call):
+        """ "registers of another length are 10 and change nothing" """
+        number = call(self.program, self.state) if self.registers_length == 7 else 10
+        return self.answer(word, number, [])
+
+    def reset(self):
+        return self.machine_call("reset", sam.reset)
+
+    def step(self):
+        return self.machine_call("step", sam.step)
+
+    def back(self):
+        return self.machine_call("back", sam.step_back)
+
+    def run(self, limit, told_length=1, word="run"):
+        """ "A `told` of another length is 31 before anything else and changes nothing" """
+        if told_length != 1:
+            number, told = 31, marked(told_length, 8)
+        elif self.registers_length != 7:
+            number, told = 10, [0]
+        else:
+            number, *told = sam.run(self.program, self.state, limit)
+        return self.answer(f"{word} {limit} {told_length}", number, told)

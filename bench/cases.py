@@ -1,0 +1,317 @@
+"""The families of cases that compare.py draws from: each adds calls to a script."""
+
+import sam
+from calls import IMAGE_BYTES, PLACES, TEXT_BYTES, LentMachine
+from programs import any_integer, any_operand, any_pattern, any_program
+from sam.actions import FLOAT, INT, MA, PA
+from sam.machine import cell_place, step_place
+from sam.table import KINDS, NAMES
+from sources import any_source, corner_sources
+
+WORD = 1 << 32
+DOUBLE_WORD = 1 << 64
+
+
+# ---- sources
+
+
+def text_corners(script):
+    for source in corner_sources():
+        script.assemble(source.encode("latin-1"))
+
+
+def text_case(chooser, script):
+    """Assemble; where it is done, list and assemble again."""
+    source = any_source(chooser)
+    places = chooser.choice([PLACES] * 30 + [0, 1023, 1025])
+    told_length = chooser.choice([2] * 30 + [0, 1, 3])
+    number, table, told = script.assemble(source, places, told_length)
+    if number == 0:
+        program = sam.Program(table, told[0])
+        script.program(program)
+        size = chooser.choice([TEXT_BYTES] * 30 + [0, TEXT_BYTES - 1, TEXT_BYTES + 1])
+        listing = script.list(program, size, chooser.choice([1] * 30 + [0, 2]))
+        if listing:
+            script.assemble(listing)
+
+
+# ---- tables and images
+
+
+def made_program(chooser):
+    """The program of a random source that assembles."""
+    while True:
+        table = [0] * PLACES
+        number, length, _ = sam.assemble(any_program(chooser).encode(), table)
+        if number == 0:
+            return sam.Program(table, length)
+
+
+def full_program(chooser):
+    """1,024 places, each with the largest operand of its kind."""
+    widest = [1 << 32 | 1 << 31, 2 << 32 | WORD - 1, 39 << 32 | WORD - 999, 42 << 32 | 999, 44 << 32 | 1024, 0]
+    return sam.Program([chooser.choice(widest) for _ in range(PLACES)], PLACES)
+
+
+def any_place(chooser):
+    operand = chooser.choice([0, 1, 999, 1000, WORD - 999, WORD - 1000, chooser.randrange(WORD)])
+    return chooser.randrange(64) << 32 | operand
+
+
+def damaged_program(chooser, program):
+    """A table with one fault, or with none by chance."""
+    table, length = list(program.table), program.length
+    kind = chooser.randrange(6)
+    if kind == 0:
+        table[chooser.randrange(PLACES)] = any_place(chooser)
+    elif kind == 1 and length:
+        table[chooser.randrange(length)] ^= 1 << chooser.randrange(64)
+    elif kind == 2 and length:
+        table[chooser.randrange(length)] = any_place(chooser)
+    elif kind == 3:
+        length = chooser.choice([0, max(length - 1, 0), length + 1, 1024, 1025, 1 << 32, DOUBLE_WORD - 1])
+    elif kind == 4:
+        table = table[: chooser.choice([0, 1, 1023])]
+    else:
+        table.append(0)
+    return sam.Program(table, length)
+
+
+def damaged_image(chooser, image):
+    image = bytearray(image)
+    kind = chooser.randrange(5)
+    if kind == 0:
+        return bytes(image[: chooser.randrange(len(image) + 1)])
+    if kind == 1:
+        return bytes(image) + bytes(chooser.choice([1, 2, 5000]))
+    if kind == 2:
+        return bytes(chooser.randrange(256) for _ in range(chooser.randrange(12)))
+    for _ in range(chooser.randrange(1, 3)):
+        if image:
+            at = chooser.choice([chooser.randrange(len(image)), len(image) - 1, min(1, len(image) - 1)])
+            image[at] ^= 1 << chooser.randrange(8)
+    return bytes(image)
+
+
+def image_case(chooser, script):
+    """Pack, unpack, and unpack a damaged image; list and pack a damaged table."""
+    program = full_program(chooser) if chooser.randrange(40) == 0 else made_program(chooser)
+    if chooser.randrange(4) == 0:
+        program = damaged_program(chooser, program)
+    script.program(program)
+    size = chooser.choice([IMAGE_BYTES] * 30 + [0, IMAGE_BYTES - 1, IMAGE_BYTES + 1])
+    image = script.pack(program, size, chooser.choice([1] * 30 + [0, 2]))
+    script.list(program, chooser.choice([TEXT_BYTES] * 30 + [TEXT_BYTES - 1]))
+    script.unpack(image, chooser.choice([PLACES] * 30 + [0, 1023, 1025]), chooser.choice([1] * 30 + [0, 2]))
+    for _ in range(3):
+        script.unpack(damaged_image(chooser, image))
+
+
+# ---- series of calls
+
+
+def fresh_state(chooser):
+    """Memory as it may be lent to a reset: any content."""
+    n = chooser.choice([chooser.randrange(1, 8), chooser.randrange(8, 40), 16, chooser.choice([999, 1000])])
+    h = chooser.choice([0, chooser.randrange(1, 12), chooser.randrange(12, 200), chooser.randrange(12, 200), 8192])
+    return sam.State(
+        bits=[chooser.randrange(WORD)] * n,
+        tags=[chooser.randrange(256)] * n,
+        history=[chooser.randrange(DOUBLE_WORD)] * h,
+        registers=sam.Registers(*[chooser.randrange(9) for _ in range(7)]),
+    )
+
+
+def series_call(chooser, lent):
+    kind = chooser.randrange(12)
+    if kind < 6:
+        return lent.step()
+    if kind < 9:
+        return lent.back()
+    if kind == 9:
+        return lent.run(chooser.randrange(1, 8))
+    return lent.run(chooser.choice([0, 20, 200, 1000]))
+
+
+def series_case(chooser, script):
+    """A reset, then steps, runs and step-backs; now and then all the way back."""
+    lent = LentMachine(script, made_program(chooser), fresh_state(chooser))
+    lent.reset()
+    for _ in range(chooser.randrange(4, 30)):
+        series_call(chooser, lent)
+    if chooser.randrange(4) == 0 and lent.state.registers.used <= 100:
+        while lent.back() == 0:
+            pass
+
+
+def reset_case(chooser, script):
+    """Sizes at and beyond their ends, broken tables, registers of another length."""
+    n = chooser.choice([0, 1, 2, 1000, 1001])
+    tags = chooser.choice([n] * 4 + [n + 1, max(n - 1, 0)])
+    h = chooser.choice([0, 1, 8192, 8193])
+    program = made_program(chooser)
+    if chooser.randrange(2):
+        program = damaged_program(chooser, program)
+    state = sam.State([7] * n, [8] * tags, [9] * h, sam.Registers(1, 2, 3, 4, 5, 6, 7))
+    lent = LentMachine(script, program, state, chooser.choice([7] * 8 + [0, 6, 8]))
+    lent.reset()
+    lent.step()
+
+
+# ---- states that no reset leads to
+
+
+def worked_state(chooser, program):
+    """The state after some steps."""
+    state = fresh_state(chooser)
+    sam.reset(program, state)
+    sam.run(program, state, chooser.randrange(60))
+    return state
+
+
+def break_registers(chooser, program, state):
+    r = state.registers
+    name = chooser.choice(["n", "h", "pc", "sp", "fbr", "halt", "used"])
+    near = {"n": r.n, "h": r.h, "pc": program.length, "sp": r.n, "fbr": r.n, "halt": 2, "used": r.h}[name]
+    value = chooser.choice([near - 1, near, near + 1, chooser.randrange(1100), DOUBLE_WORD - 1, WORD])
+    setattr(r, name, max(value, 0))
+
+
+def break_cells(chooser, program, state):
+    at = chooser.randrange(len(state.bits))
+    state.tags[at] = chooser.choice([PA, PA, 4, 255, chooser.randrange(4)])
+    if chooser.randrange(2):
+        length = program.length
+        state.bits[at] = chooser.choice([length, length + 1, WORD - 1])
+
+
+def break_slices(chooser, program, state):
+    lent = chooser.choice([state.bits, state.tags, state.history])
+    if chooser.randrange(2) and lent:
+        lent.pop()
+    else:
+        lent.append(0)
+
+
+def break_record(chooser, program, state):
+    used = state.registers.used
+    if used:
+        at = used - 1 - chooser.randrange(min(used, 3))
+        state.history[at] ^= 1 << chooser.randrange(64)
+
+
+def made_record(chooser, program, state):
+    """A record made by hand, nearly well formed, that need not fit an instruction."""
+    n, h = state.registers.n, state.registers.h
+    if h == 0:
+        return
+    count = min(chooser.choice([0, 1, 2, 3, 5, h]), h - 1, n)
+    addresses = sorted(chooser.sample(range(n), count))
+    if chooser.randrange(6) == 0:
+        chooser.shuffle(addresses)
+    length = program.length
+    bits = lambda: chooser.choice([0, length, length, length + 1, chooser.randrange(WORD)])
+    cells = [cell_place(address, chooser.randrange(4), bits()) for address in addresses]
+    last = step_place(
+        min(chooser.choice([0, max(length - 1, 0), max(length - 1, 0), length]), 2047),
+        chooser.choice([0, n - 1, n - 1, n]),
+        chooser.choice([0, n - 1, n - 1, n]),
+        chooser.choice([count] * 6 + [count + 1]),
+    )
+    start = chooser.randrange(h - count)
+    state.history[start : start + count + 1] = cells + [last]
+    state.registers.used = start + count + 1
+
+
+BREAKS = [break_registers, break_registers, break_cells, break_slices, break_record, made_record, made_record]
+
+
+def any_call(chooser, lent):
+    kind = chooser.randrange(5)
+    if kind < 2:
+        return lent.back()
+    if kind < 4:
+        return lent.step()
+    limit = chooser.choice([0, 1, 50, 1000000, 1000001, DOUBLE_WORD - 1]) if lent.registers_length == 7 else 5
+    return lent.run(limit, chooser.choice([1] * 8 + [0, 2]))
+
+
+def broken_case(chooser, script):
+    """A state or a table with a fault, or nearly so; every call on it."""
+    program = made_program(chooser)
+    state = worked_state(chooser, program)
+    if chooser.randrange(8) == 0:
+        program = damaged_program(chooser, program)
+    else:
+        chooser.choice(BREAKS)(chooser, program, state)
+    lent = LentMachine(script, program, state, chooser.choice([7] * 20 + [6, 8]))
+    for _ in range(4):
+        any_call(chooser, lent)
+
+
+def plain_case(chooser, script):
+    """The same for the plain C run, which the speeds are measured against."""
+    program = made_program(chooser)
+    state = worked_state(chooser, program)
+    if chooser.randrange(3) == 0:
+        chooser.choice(BREAKS)(chooser, program, state)
+    lent = LentMachine(script, program, state)
+    for _ in range(6):
+        lent.run(chooser.choice([0, 1, 2, 5, 200, 1000, 1000001]), chooser.choice([1] * 20 + [2]), word="plain")
+
+
+# ---- one instruction at a time
+
+
+def any_bits(chooser, tag, n):
+    if tag == INT:
+        return any_integer(chooser) % WORD
+    if tag == FLOAT:
+        return any_pattern(chooser)
+    if tag == MA:
+        return chooser.choice([0, 1, n - 1, n, WORD - 1, chooser.randrange(n), chooser.randrange(n)])
+    return chooser.randrange(3)
+
+
+def any_small_state(chooser):
+    """A few cells, most of them of one tag."""
+    n, h = chooser.randrange(1, 10), chooser.choice([0, 0, 1, 2, 3, 9])
+    tag = chooser.choice([INT, INT, FLOAT, MA, PA])
+    tags = [chooser.choice([tag, tag, tag, chooser.randrange(4)]) for _ in range(n)]
+    registers = sam.Registers(n, h, 0, chooser.choice([n - 1, chooser.randrange(n)]), chooser.randrange(n), 0, 0)
+    return sam.State([any_bits(chooser, tag, n) for tag in tags], tags, [0] * h, registers)
+
+
+def step_number(program, state):
+    """What a step would give."""
+    copy = sam.State(list(state.bits), list(state.tags), list(state.history), state.registers)
+    return sam.step(program, copy)
+
+
+def instruction_case(chooser, script):
+    """One instruction on a small stack: most often one that it takes, so that its results are compared."""
+    code = chooser.randrange(len(NAMES))
+    table = [0] * PLACES
+    number, length, _ = sam.assemble((NAMES[code] + any_operand(chooser, KINDS[code], 1) + " STOP").encode(), table)
+    assert number == 0
+    program = sam.Program(table, length)
+    state = any_small_state(chooser)
+    for _ in range(chooser.choice([0, 6, 30])):
+        if step_number(program, state) not in (3, 4):
+            break
+        state = any_small_state(chooser)
+    lent = LentMachine(script, program, state)
+    lent.step()
+    lent.back()
+
+
+# Each family with its share of the cases.
+FAMILIES = {
+    "text": (text_case, 4),
+    "image": (image_case, 2),
+    "series": (series_case, 3),
+    "reset": (reset_case, 1),
+    "instruction": (instruction_case, 40),
+    "broken": (broken_case, 5),
+    "plain": (plain_case, 2),
+}

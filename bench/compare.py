@@ -1,0 +1,145 @@
+#!/usr/bin/env python3
+"""Compares every call of the C library, and the console program, with the interpreter in sam/, byte for byte.
+
+    compare.py [--seed S] [--cases C] [--only FAMILY,..] [--console COMMAND] [--save FILE] DRIVER
+
+DRIVER and COMMAND are commands: a program, or an emulator and a program. Exit status 1 where anything differs or a
+number of document 01 was never given back.
+"""
+
+import argparse
+import random
+import shlex
+import subprocess
+import sys
+from collections import Counter
+
+import sam
+from calls import Script
+from cases import FAMILIES, text_corners
+from sources import any_source
+
+ALL_NUMBERS = [*range(0, 12), *range(21, 32), *range(41, 46), 50]
+CUT = 400  # characters of a line that a difference shows
+
+
+def make_script(seed, cases, families):
+    chooser = random.Random(seed)
+    script = Script()
+    if "text" in families:
+        text_corners(script)
+    made = [FAMILIES[name][0] for name in families]
+    shares = [FAMILIES[name][1] for name in families]
+    for case in chooser.choices(made, shares, k=cases):
+        case(chooser, script)
+    return script
+
+
+def ask(command, text):
+    """What the command prints for this input."""
+    answer = subprocess.run(shlex.split(command), input=text, stdout=subprocess.PIPE, check=False)
+    return answer.stdout, answer.returncode
+
+
+def shown(line, at):
+    """A line around the first byte that differs."""
+    start = max(0, at - CUT // 2)
+    return ("..." if start else "") + line[start : start + CUT] + ("..." if len(line) > start + CUT else "")
+
+
+def first_difference(one, other):
+    return next((i for i, (a, b) in enumerate(zip(one, other)) if a != b), min(len(one), len(other)))
+
+
+def report(title, setting, expected, answered):
+    at = first_difference(expected, answered)
+    print(f"DIFFERENT: {title}")
+    for line in setting:
+        print(f"  given    {shown(line, 0)}")
+    print(f"  document {shown(expected, at)}")
+    print(f"  library  {shown(answered, at)}")
+
+
+def setting_of(lines, index):
+    """The lines that lead to this call: since the last `program`, which begins a machine, or the call alone."""
+    start = index
+    if not lines[index][0].startswith(("assemble ", "unpack ")):
+        while start > 0 and not lines[start][0].startswith("program "):
+            start -= 1
+    return [line for line, _ in lines[start : index + 1]]
+
+
+def save(path, setting):
+    """The lines whole, to give to the driver again."""
+    with open(path, "w", encoding="ascii") as file:
+        file.writelines(line + "\n" for line in setting)
+    print(f"  these lines, whole: {path}")
+
+
+def compare_driver(command, script, path):
+    text = "".join(line + "\n" for line, _ in script.lines).encode()
+    output, status = ask(command, text)
+    answers = iter(output.decode().splitlines())
+    for index, (line, expected) in enumerate(script.lines):
+        if expected is None:
+            continue
+        answered = next(answers, f"(nothing: the driver ended with status {status})")
+        if answered != expected:
+            setting = setting_of(script.lines, index)
+            report(line.split(" ", 1)[0], setting, expected, answered)
+            if path:
+                save(path, setting)
+            return False
+    if status != 0:
+        print(f"DIFFERENT: the driver ended with status {status}")
+    return status == 0
+
+
+def compare_console(command, seed, count):
+    chooser = random.Random(seed)
+    endings = Counter()
+    for _ in range(count):
+        source = any_source(chooser)
+        expected = sam.console(source)
+        answered = ask(command, source)[0].decode("latin-1")
+        endings[expected.split(" ", 2)[0]] += 1
+        if answered != expected:
+            report("console", [repr(source)], expected, answered)
+            return False
+    print(f"console: {count} sources alike, {endings['end']} run and {endings['refused']} refused")
+    return True
+
+
+def print_summary(script, seed, cases):
+    calls = " ".join(f"{name} {count}" for name, count in sorted(script.calls.items()))
+    numbers = " ".join(f"{number}:{script.numbers[number]}" for number in sorted(script.numbers))
+    print(f"calls: {calls}")
+    print(f"alike: seed {seed} cases {cases} calls {sum(script.numbers.values())} numbers {numbers}")
+
+
+def main():
+    parser = argparse.ArgumentParser(description=__doc__, formatter_class=argparse.RawDescriptionHelpFormatter)
+    parser.add_argument("driver")
+    parser.add_argument("--seed", type=int, default=1)
+    parser.add_argument("--cases", type=int, default=20000)
+    parser.add_argument("--only", default=",".join(FAMILIES), help="families of cases: " + ", ".join(FAMILIES))
+    parser.add_argument("--console", help="the console program, compared as well")
+    parser.add_argument("--sources", type=int, default=200, help="sources for the console")
+    parser.add_argument("--save", help="a file for the driver's lines that led to the first difference")
+    words = parser.parse_args()
+    families = words.only.split(",")
+    script = make_script(words.seed, words.cases, families)
+    alike = compare_driver(words.driver, script, words.save)
+    if alike:
+        print_summary(script, words.seed, words.cases)
+    missing = [number for number in ALL_NUMBERS if number not in script.numbers]
+    if missing and set(families) == set(FAMILIES):
+        print(f"MISSING: never given back: {missing}")
+        alike = False
+    if words.console:
+        alike = compare_console(words.console, words.seed, words.sources) and alike
+    return 0 if alike else 1
+
+
+if __name__ == "__main__":
+    sys.exit(main())

@@ -1,0 +1,208 @@
+"""Random programs as source text: mostly well typed, with loops, calls and frames, so that they run for long.
+
+A Builder knows the tags of the values that the program made so far will have on the stack (with FBR 0 at the outer
+level) and picks instructions that take them. At a small rate it puts in any instruction at all.
+"""
+
+from sam.actions import FLOAT, INT, MA, PA
+from sam.table import INTEGER, KINDS, NAMES, OFFSET, PATTERN, TARGET
+
+INTEGER_EDGES = [0, 1, -1, 2, -2, 3, 7, 40, 255, 65535, 65536, 2**31 - 1, -(2**31), -(2**31) + 1, 2**30]
+FLOAT_EDGES = [
+    0x00000000, 0x80000000, 0x00000001, 0x80000001, 0x007FFFFF, 0x00800000, 0x00800001, 0x3F800000, 0xBF800000,
+    0x3F800001, 0x3F7FFFFF, 0x40200000, 0x40490FDB, 0x33800000, 0x34000000, 0x4B800000, 0x7F7FFFFF, 0xFF7FFFFF,
+    0x7F800000, 0xFF800000, 0x7FC00000, 0x7F800001, 0xFFFFFFFF,
+]  # fmt: skip
+
+TWO_INTEGERS = """
+    ADD SUB TIMES DIV MOD AND OR NAND NOR XOR BITAND BITOR BITNAND BITNOR BITXOR CMP GREATER LESS
+""".split()
+ONE_INTEGER = ["NOT", "BITNOT", "ISPOS", "ISNEG"]
+TWO_FLOATS = ["ADDF", "SUBF", "TIMESF", "DIVF"]
+
+
+def any_integer(chooser):
+    return chooser.choice(
+        [
+            chooser.choice(INTEGER_EDGES),
+            chooser.randrange(-20, 21),
+            chooser.randrange(-(2**31), 2**31),
+        ]
+    )
+
+
+def any_pattern(chooser):
+    """Edges; patterns near one in size, so that sums round and cancel; small and large ones, whose products and
+    quotients leave the range; short fractions, whose results are ties."""
+    fraction = chooser.choice([chooser.randrange(1 << 23), chooser.randrange(1 << 12) << 11, chooser.randrange(1 << 8)])
+    exponent = chooser.choice([chooser.randrange(120, 135), chooser.randrange(50, 80), chooser.randrange(180, 200)])
+    sized = chooser.randrange(2) << 31 | exponent << 23 | fraction
+    return chooser.choice([chooser.choice(FLOAT_EDGES), sized, sized, chooser.randrange(1 << 32)])
+
+
+def any_operand(chooser, kind, length):
+    if kind == INTEGER:
+        return f" {any_integer(chooser)}"
+    if kind == PATTERN:
+        return f" #{any_pattern(chooser):08X}"
+    if kind == OFFSET:
+        return f" {chooser.choice([chooser.randrange(-3, 8), chooser.randrange(-999, 1000)])}"
+    if kind == TARGET:
+        return f" {chooser.randrange(length + 1)}"
+    return ""
+
+
+def any_instruction(chooser, length):
+    code = chooser.randrange(len(NAMES))
+    return NAMES[code] + any_operand(chooser, KINDS[code], length)
+
+
+def careless(chooser, length):
+    """A program of any instructions at all."""
+    return "\n".join(any_instruction(chooser, length) for _ in range(length))
+
+
+class Builder:
+    DEEPEST = 12  # values that the outer level keeps
+
+    def __init__(self, chooser, slip=0.0):
+        self.chooser, self.slip = chooser, slip
+        self.lines, self.functions = [], []
+        self.tags = []
+        self.labels = 0
+
+    def put(self, *lines):
+        self.lines += lines
+
+    def label(self):
+        self.labels += 1
+        return f"L{self.labels}"
+
+    # ---- one instruction, by the tags on top
+
+    def push_something(self):
+        chooser = self.chooser
+        kind = chooser.randrange(8)
+        if kind < 3:
+            self.put(f"PUSHIMM {any_integer(chooser)}")
+            self.tags.append(INT)
+        elif kind < 6:
+            self.put(f"PUSHIMMF #{any_pattern(chooser):08X}")
+            self.tags.append(FLOAT)
+        elif kind == 6:
+            self.put(chooser.choice(["PUSHSP", "PUSHFBR"]))
+            self.tags.append(MA)
+        else:
+            self.put("PUSHIMMPA 0")
+            self.tags.append(PA)
+
+    def work(self):
+        """An instruction that takes the values on top, and what it leaves there."""
+        chooser, top = self.chooser, self.tags[-2:]
+        choices = [("ISNIL", 1, INT), ("DUP", 0, top[-1])]
+        if top == [INT, INT]:
+            choices += [(name, 2, INT) for name in TWO_INTEGERS]
+        if top == [FLOAT, FLOAT]:
+            choices += [(name, 2, FLOAT) for name in TWO_FLOATS * 3] + [("CMPF", 2, INT)] * 2
+        if top[-1] == INT:
+            choices += [(name, 1, INT) for name in ONE_INTEGER]
+        if top == [MA, INT]:
+            choices += [("ADD", 2, MA), ("SUB", 2, MA)]
+        if len(top) == 2:
+            choices.append(("EQUAL", 2, INT))
+        name, pops, leaves = chooser.choice(choices)
+        if name in ("DIV", "MOD") and chooser.randrange(8):
+            self.put("PUSHIMM 3", "BITOR")  # seldom by zero
+        self.put(name)
+        self.tags[len(self.tags) - pops :] = [leaves]
+
+    def swap(self):
+        if len(self.tags) >= 2:
+            self.put("SWAP")
+            self.tags[-2:] = self.tags[:-3:-1]
+
+    # ---- memory, by offset and by address
+
+    def copy_up(self):
+        at = self.chooser.randrange(len(self.tags))
+        if self.chooser.randrange(2):
+            self.put(f"PUSHOFF {at}")
+        else:
+            self.put("PUSHFBR", f"PUSHIMM {at}", "ADD", "PUSHIND")
+        self.tags.append(self.tags[at])
+
+    def store_top(self):
+        if len(self.tags) < 2:
+            return
+        at = self.chooser.randrange(len(self.tags) - 1)
+        if self.chooser.randrange(2):
+            self.put(f"STOREOFF {at}")
+        else:
+            self.put("PUSHFBR", f"PUSHIMM {at}", "ADD", "SWAP", "STOREIND")
+        self.tags[at] = self.tags.pop()
+
+    def move_sp(self):
+        """ADDSP or POPSP, up or down."""
+        by = self.chooser.randrange(-len(self.tags), 4)
+        if self.chooser.randrange(2):
+            self.put(f"ADDSP {by}")
+        else:
+            self.put("PUSHSP", f"PUSHIMM {by}", "ADD", "POPSP")
+        self.tags = self.tags[:by] if by < 0 else self.tags + [INT] * by
+
+    # ---- control: each leaves the tags as it says
+
+    def loop(self):
+        """Counts down to zero around a body that leaves the stack as it was."""
+        label = self.label()
+        self.put(f"PUSHIMM {self.chooser.randrange(1, 9)}", f"{label}:")
+        for _ in range(self.chooser.randrange(1, 4)):
+            self.put(f"PUSHIMM {any_integer(self.chooser)}", f"PUSHIMM {any_integer(self.chooser)}")
+            self.put(self.chooser.choice(["BITXOR", "TIMES", "SUB", "EQUAL"]), "ADDSP -1")
+        self.put("PUSHIMM 1", "SUB", "DUP", f"JUMPC {label}")
+        self.tags.append(INT)
+
+    def branch(self):
+        other, end = self.label(), self.label()
+        self.put(f"PUSHIMM {self.chooser.randrange(2)}", f"JUMPC {other}", "PUSHIMM 1", f"JUMP {end}")
+        self.put(f"{other}:", "PUSHIMM 2", f"{end}:")
+        self.tags.append(INT)
+
+    def call(self):
+        """A function that stores its result below its frame, called by its name or by its address."""
+        name = self.label()
+        self.put("PUSHIMM 0", "LINK")
+        self.put(*self.chooser.choice([[f"JSR {name}"], [f"PUSHIMMPA {name}", "JSRIND"]]))
+        self.put("POPFBR")
+        self.functions.append([f"{name}:", f"PUSHIMM {any_integer(self.chooser)}", "STOREOFF -1", "JUMPIND"])
+        self.tags.append(INT)
+
+    def piece(self):
+        chooser = self.chooser
+        if chooser.random() < self.slip:
+            self.put(any_instruction(chooser, len(self.lines)))
+        elif not self.tags:
+            self.push_something()
+        elif len(self.tags) >= self.DEEPEST:
+            chooser.choice([self.store_top, self.move_sp, self.work])()
+        else:
+            most = [self.push_something] * 6 + [self.work] * 10
+            some = [self.swap, self.copy_up, self.store_top, self.move_sp, self.loop, self.branch, self.call]
+            chooser.choice(most + some)()
+
+    def source(self, pieces):
+        for _ in range(pieces):
+            self.piece()
+        lines = self.lines + ["STOP"]
+        for function in self.functions:
+            lines += function
+        return "\n".join(lines)
+
+
+def any_program(chooser):
+    """Long and sound, or with slips, or of any instructions at all."""
+    kind = chooser.randrange(10)
+    if kind == 0:
+        return careless(chooser, chooser.randrange(0, 12))
+    slip = chooser.choice([0.0, 0.0, 0.02, 0.1])
+    return Builder(chooser, slip).source(chooser.randrange(1, 40))

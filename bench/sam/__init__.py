@@ -1,0 +1,23 @@
+"""An interpreter of document 01, written from the document alone, to compare the proved one with."""
+
+from .console import cell_line, console
+from .image import pack, unpack
+from .machine import Program, Registers, State, reset, run, sound, step, step_back
+from .text import assemble, list_program
+
+__all__ = [
+    "Program",
+    "Registers",
+    "State",
+    "assemble",
+    "cell_line",
+    "console",
+    "list_program",
+    "pack",
+    "reset",
+    "run",
+    "sound",
+    "step",
+    "step_back",
+    "unpack",
+]

@@ -1,0 +1,31 @@
+"""What the console program prints for a source: document 01, after "Small examples"."""
+
+from .actions import FLOAT
+from .machine import Program, State, reset, run
+from .table import PROGRAM_LIMIT, signed
+from .text import assemble
+
+CELLS = 1000
+LIMIT = 100000
+TAG_NAMES = ("INT", "FLOAT", "MA", "PA")
+
+
+def cell_line(address, tag, bits):
+    """ "each live cell as place, tag, number (INT and MA signed; FLOAT as # and eight hex digits in capitals)" """
+    number = f"#{bits:08X}" if tag == FLOAT else str(signed(bits))
+    return f"{address} {TAG_NAMES[tag]} {number}\n"
+
+
+def console(source):
+    table = [0] * PROGRAM_LIMIT
+    number, length, place = assemble(source, table)
+    if number:
+        return f"refused {number} {place}\n"
+    program = Program(table, length)
+    state = State(bits=[0] * CELLS, tags=[0] * CELLS, history=[])
+    reset(program, state)
+    number, steps = run(program, state, LIMIT)
+    r = state.registers
+    lines = [f"end {number} steps {steps}\n", f"PC {r.pc} SP {r.sp} FBR {r.fbr}\n"]
+    lines += [cell_line(address, *state.cell(address)) for address in range(r.sp)]
+    return "".join(lines)

@@ -1,0 +1,240 @@
+"""Reset, step, step-back and run: document 01, "Numbers given back" and "History places"."""
+
+from dataclasses import dataclass, field, replace
+
+from .actions import ACTIONS, INT, PA, Move, Refusal
+from .table import WORD, table_sound
+
+CELL_LIMIT = 1000  # "N cells, 1 to 1,000"
+HISTORY_LIMIT = 8192  # "History of H places, 0 to 8,192"
+RUN_LIMIT = 1000000  # "Run limit 0 to 1,000,000"
+
+
+@dataclass
+class Registers:
+    n: int = 0
+    h: int = 0
+    pc: int = 0
+    sp: int = 0
+    fbr: int = 0
+    halt: int = 0
+    used: int = 0
+
+
+@dataclass
+class Program:
+    table: list
+    length: int
+
+
+@dataclass
+class State:
+    """A machine: its registers and the three lent lists. Calls change it in place."""
+
+    bits: list
+    tags: list
+    history: list
+    registers: Registers = field(default_factory=Registers)
+
+    def cell(self, address):
+        return self.tags[address], self.bits[address]
+
+    def cells(self, low, high):
+        return [self.cell(address) for address in range(low, high)]
+
+    def set_cell(self, address, tag, bits):
+        self.tags[address], self.bits[address] = tag, bits
+
+
+def sizes_allowed(n, h):
+    return 1 <= n <= CELL_LIMIT and 0 <= h <= HISTORY_LIMIT
+
+
+# ---- 10
+
+
+def registers_sound(registers, length):
+    """ "SP or FBR not below N; PC above length; HALT not 0 or 1; U above H" """
+    r = registers
+    return r.sp < r.n and r.fbr < r.n and r.pc <= length and r.halt in (0, 1) and r.used <= r.h
+
+
+def slices_sound(state):
+    """ "a kept N or H outside "Sizes", or a lent slice not of its N or H" """
+    n, h = state.registers.n, state.registers.h
+    return sizes_allowed(n, h) and len(state.bits) == n and len(state.tags) == n and len(state.history) == h
+
+
+def cell_sound(tag, bits, length):
+    """ "a tag above 3; a PA cell above length" """
+    return tag <= PA and not (tag == PA and bits > length)
+
+
+def sound(program, state):
+    """Not 10: the table, then the state, of which all N cells are read and no history."""
+    return (
+        table_sound(program.table, program.length)
+        and slices_sound(state)
+        and registers_sound(state.registers, program.length)
+        and all(cell_sound(tag, bits, program.length) for tag, bits in zip(state.tags, state.bits))
+    )
+
+
+# ---- history places: "Fields are packed most significant bit first into 64 bits."
+
+
+def cell_place(address, tag, bits):
+    """ "0, address 10, old tag 2, old bits 32, 19 zeros" """
+    return address << 53 | tag << 51 | bits << 19
+
+
+def step_place(pc, sp, fbr, written):
+    """ "1, old PC 11, old SP 10, old FBR 10, cells written 10, 22 zeros" """
+    return 1 << 63 | pc << 52 | sp << 42 | fbr << 32 | written << 22
+
+
+def split_cell_place(place):
+    return place >> 53 & 0x3FF, place >> 51 & 3, place >> 19 & 0xFFFFFFFF
+
+
+def split_step_place(place):
+    return place >> 52 & 0x7FF, place >> 42 & 0x3FF, place >> 32 & 0x3FF, place >> 22 & 0x3FF
+
+
+@dataclass
+class Record:
+    """What one step wrote to the history."""
+
+    start: int  # its lowest place
+    pc: int
+    sp: int
+    fbr: int
+    cells: list  # (address, old tag, old bits)
+
+
+def top_record(state):
+    """The record that ends at U, or nothing where its marks and zeros are wrong or it does not lie within U."""
+    used = state.registers.used
+    last = state.history[used - 1]
+    pc, sp, fbr, written = split_step_place(last)
+    if last != step_place(pc, sp, fbr, written) or written + 1 > used:
+        return None
+    start = used - 1 - written
+    places = state.history[start : used - 1]
+    cells = [split_cell_place(place) for place in places]
+    if any(place != cell_place(*cell) for place, cell in zip(places, cells)):
+        return None
+    return Record(start, pc, sp, fbr, cells)
+
+
+def record_sound(record, n, length):
+    """ "old PC below length, SP, FBR and addresses below N, addresses rising strictly, restored PAs at most length" """
+    addresses = [address for address, _, _ in record.cells]
+    return (
+        record.pc < length
+        and record.sp < n
+        and record.fbr < n
+        and all(address < n for address in addresses)
+        and all(low < high for low, high in zip(addresses, addresses[1:]))
+        and all(cell_sound(tag, bits, length) for _, tag, bits in record.cells)
+    )
+
+
+# ---- the calls
+
+
+def reset(program, state):
+    """The number; the registers are zero where it is a refusal. "Reset: 11 before 10." """
+    state.registers = Registers()
+    n, h = len(state.bits), len(state.history)
+    if not sizes_allowed(n, h) or len(state.tags) != n:
+        return 11
+    if not table_sound(program.table, program.length):
+        return 10
+    state.bits[:] = [0] * n
+    state.tags[:] = [INT] * n
+    state.history[:] = [0] * h
+    state.registers = Registers(n=n, h=h)
+    return 0
+
+
+def decide(program, state):
+    """1 to 7 in order, or the move that the step makes."""
+    registers = state.registers
+    if registers.halt:
+        raise Refusal(1)
+    if registers.pc == program.length:
+        raise Refusal(2)
+    place = program.table[registers.pc]
+    move = Move(state, place % WORD)
+    ACTIONS[place >> 32](move)
+    if move.sp >= registers.n:
+        raise Refusal(7)
+    return move
+
+
+def record_of(move, state):
+    """The places a step adds: "its cell places by rising address, then its step place"."""
+    old = state.registers
+    addresses = sorted(address for address, _, _ in move.writes)
+    places = [cell_place(address, *state.cell(address)) for address in addresses]
+    return places + [step_place(old.pc, old.sp, old.fbr, len(addresses))]
+
+
+def plain_step(program, state):
+    """A step of a sound state: 1 to 8 in order."""
+    try:
+        move = decide(program, state)
+    except Refusal as refusal:
+        return refusal.args[0]
+    registers = state.registers
+    used = registers.used
+    if registers.h > 0:
+        if registers.h - used < len(move.writes) + 1:
+            return 8
+        record = record_of(move, state)
+        state.history[used : used + len(record)] = record
+        used += len(record)
+    for write in move.writes:
+        state.set_cell(*write)
+    state.registers = replace(registers, pc=move.pc, sp=move.sp, fbr=move.fbr, halt=move.halt, used=used)
+    return 0
+
+
+def step(program, state):
+    """ "Step: 10, then 1 to 8 in order." """
+    return plain_step(program, state) if sound(program, state) else 10
+
+
+def run(program, state, limit):
+    """(number, steps made). "Run: 11, then 10." Accepted steps keep a sound state sound, so 10 is judged once."""
+    if limit > RUN_LIMIT:
+        return 11, 0
+    if not sound(program, state):
+        return 10, 0
+    steps = 0
+    while not state.registers.halt:
+        if steps == limit:
+            return 50, steps
+        number = plain_step(program, state)
+        if number:
+            return number, steps
+        steps += 1
+    return 0, steps
+
+
+def step_back(program, state):
+    """ "Step-back: 10, then 9." """
+    if not sound(program, state):
+        return 10
+    registers = state.registers
+    if registers.used == 0:
+        return 9
+    record = top_record(state)
+    if record is None or not record_sound(record, registers.n, program.length):
+        return 10
+    for cell in record.cells:
+        state.set_cell(*cell)
+    state.history[record.start : registers.used] = [0] * (len(record.cells) + 1)
+    state.registers = replace(registers, pc=record.pc, sp=record.sp, fbr=record.fbr, halt=0, used=record.start)
+    return 0

@@ -1,0 +1,59 @@
+#!/usr/bin/env python3
+"""Prints what the published programs of document 004 do, and the complaint: the format is in README.md."""
+
+import sys
+from pathlib import Path
+
+import sam
+
+FOLDER = Path(__file__).parent / "teaching"
+
+# In the order of the slides.
+PROGRAMS = """
+    sum product xy_first xy_addsp xy_link addsp abs_number abs_label abs_jump conditional loop loop_better
+    call abs_call factorial power complaint
+""".split()
+
+COMPLAINT_CELLS = 16
+COMPLAINT_PLACES = 6
+TRIAL_STEPS = 2
+
+
+def source_of(name):
+    return (FOLDER / f"{name}.sam").read_bytes()
+
+
+def cell_zero(state):
+    return sam.cell_line(0, *state.cell(0))
+
+
+def take_steps(program, state, count):
+    for _ in range(count):
+        assert sam.step(program, state) == 0
+
+
+def complaint():
+    """Cell 0 before the trial, after it, and after the technician's one step-back."""
+    table = [0] * 1024
+    number, length, _ = sam.assemble(source_of("complaint"), table)
+    assert number == 0
+    program = sam.Program(table, length)
+    state = sam.State(bits=[0] * COMPLAINT_CELLS, tags=[0] * COMPLAINT_CELLS, history=[0] * COMPLAINT_PLACES)
+    assert sam.reset(program, state) == 0
+    take_steps(program, state, 1)
+    lines = ["before " + cell_zero(state)]
+    take_steps(program, state, TRIAL_STEPS)
+    lines.append("trial " + cell_zero(state))
+    assert sam.step_back(program, state) == 0
+    lines.append("back " + cell_zero(state))
+    return "".join(lines)
+
+
+def main():
+    for name in PROGRAMS:
+        sys.stdout.write(f"program {name}\n{sam.console(source_of(name))}")
+    sys.stdout.write(complaint())
+
+
+if __name__ == "__main__":
+    main()

@@ -1,0 +1,511 @@
+#!/usr/bin/env python3
+"""Tests of the interpreter in sam/: the twelve P examples of document 01, its sentences, and the settled readings.
+
+Every expected value is read off document 01 or worked out by hand; none is copied from an output.
+"""
+
+import ctypes
+import random
+import struct
+import unittest
+
+import sam
+from sam import floats
+from sam.actions import FLOAT, INT, MA, PA
+
+PLACES = 1024
+
+
+def assembled(text):
+    """(number, length, place) and the table."""
+    source = text if isinstance(text, bytes) else text.encode()
+    table = [7] * PLACES
+    return sam.assemble(source, table), table
+
+
+def program(text):
+    (number, length, _), table = assembled(text)
+    assert number == 0, (number, text)
+    return sam.Program(table, length)
+
+
+def started(text, n=16, h=0):
+    made = program(text)
+    state = sam.State(bits=[9] * n, tags=[1] * n, history=[9] * h)
+    assert sam.reset(made, state) == 0
+    return made, state
+
+
+def stepped(text, n=16, h=0):
+    """The numbers of steps until one is refused or HALT is set, and the state."""
+    made, state = started(text, n, h)
+    numbers = []
+    while not state.registers.halt:
+        numbers.append(sam.step(made, state))
+        if numbers[-1]:
+            break
+    return numbers, state
+
+
+def live(state):
+    return state.cells(0, state.registers.sp)
+
+
+class PExamples(unittest.TestCase):
+    def top(self, text):
+        numbers, state = stepped(text + " STOP")
+        self.assertEqual(set(numbers), {0})
+        return live(state)[-1]
+
+    def test_values(self):
+        word = 1 << 32
+        for text, number in [
+            ("PUSHIMM 6 PUSHIMM 4 CMP", -1),  # P1
+            ("PUSHIMM 6 PUSHIMM 4 GREATER", 1),
+            ("PUSHIMM 2 PUSHIMM 3 SUB", -1),  # P2
+            ("PUSHIMM 2147483647 PUSHIMM 1 ADD", -2147483648),  # P3
+            ("PUSHIMM -7 PUSHIMM 2 DIV", -3),  # P4
+            ("PUSHIMM -7 PUSHIMM 2 MOD", -1),
+            ("PUSHIMM 65536 PUSHIMM 65536 TIMES", 0),  # P5
+            ("PUSHIMM 6 PUSHIMM 5 BITNAND", -5),  # P6
+            ("PUSHIMM -2147483648 PUSHIMM -1 DIV", -2147483648),
+            ("PUSHIMM -2147483648 PUSHIMM -1 MOD", 0),
+        ]:
+            self.assertEqual(self.top(text), (INT, number % word), text)
+
+    def test_p7(self):
+        self.assertEqual(stepped("PUSHIMM 1 PUSHIMM 1", n=2)[0], [0, 7])
+        self.assertEqual(stepped("PUSHIMM 1", n=1)[0], [7])
+
+    def test_p8(self):
+        self.assertEqual(stepped("PUSHSP PUSHIND")[0], [0, 6])
+
+    def test_p9(self):
+        self.assertEqual(stepped("ADDSP -1")[0], [3])
+        self.assertEqual(stepped("ADDSP 3", n=4)[0], [0, 2])
+        self.assertEqual(stepped("ADDSP 4", n=4)[0], [7])
+
+    def packed(self, text):
+        made = program(text)
+        image = bytearray(4866)
+        number, length = sam.pack(made.table, made.length, image)
+        self.assertEqual((number, any(image[length:])), (0, False))
+        return image[:length].hex(" ").upper()
+
+    def test_p10_p11(self):
+        self.assertEqual(self.packed("PUSHIMM 5 STOP"), "00 40 80 00 00 02 80")
+        self.assertEqual(self.packed("ADDSP -2"), "00 33 FF E0")
+
+    def test_p12(self):
+        made, state = started("PUSHIMM 40 PUSHIMMF #40200000 STOREOFF 0", h=6)
+        self.assertEqual([sam.step(made, state) for _ in range(3)], [0, 0, 0])
+        self.assertEqual(state.history[4:], [0x0000000001400000, 0x8020080000400000])
+        self.assertEqual(state.cell(0), (FLOAT, 0x40200000))
+        self.assertEqual(sam.step_back(made, state), 0)
+        self.assertEqual(state.cell(0), (INT, 40))
+        self.assertEqual(state.history[4:], [0, 0])
+        self.assertEqual(state.registers, sam.Registers(n=16, h=6, pc=2, sp=2, fbr=0, halt=0, used=4))
+
+
+class Text(unittest.TestCase):
+    def refused(self, text, number, place):
+        answer, table = assembled(text)
+        self.assertEqual(answer, (number, 0, place), text)
+        self.assertFalse(any(table))
+
+    def test_places(self):
+        for text, number, place in [
+            ("FOO@", 22, 3),
+            ("STOP / STOP", 22, 5),
+            ("a/b", 22, 1),
+            ("STOP \x01", 22, 5),
+            ("5:$", 23, 0),
+            ("a::", 23, 2),
+            (":", 23, 0),
+            ("PUSHIMM :", 24, 8),
+            ("PUSHIMM 5:", 24, 8),
+            ("JUMP a: STOP", 24, 5),
+            ("FOO", 23, 0),
+            ("stop", 23, 0),
+            ("STOP 5", 23, 5),
+            ("_a:", 23, 0),
+            ("a-b:", 23, 0),
+            ("PUSHIMM", 24, 7),
+            ("PUSHIMM // 5\n", 24, 13),
+            ("PUSHIMM ADD", 24, 8),
+            ("PUSHIMM -", 24, 8),
+            ("PUSHIMM --1", 24, 8),
+            ("PUSHIMM #00000000", 24, 8),
+            ("PUSHIMMF 5", 24, 9),
+            ("PUSHIMMF #4020000", 24, 9),
+            ("PUSHIMMF #402000000", 24, 9),
+            ("PUSHIMMF #4020000G", 24, 9),
+            ("JUMP #00000000", 24, 5),
+            ("JUMP -", 24, 5),
+            ("PUSHIMM 2147483648", 25, 8),
+            ("PUSHIMM -2147483649", 25, 8),
+            ("PUSHIMM 00000000001", 25, 8),
+            ("ADDSP 1000", 25, 6),
+            ("PUSHOFF -1000", 25, 8),
+            ("JUMP 2", 25, 5),
+            ("JUMP -1", 25, 5),
+            ("JUMP 00000000001", 25, 5),
+            ("JUMP 9 FOO", 23, 7),
+            ("JUMP x JUMP 9", 27, 5),
+            ("JUMP 9 JUMP x", 25, 5),
+            ("a: STOP a:", 26, 8),
+            ("JUMP ADD", 27, 5),
+            ("x" * 33 + ":", 30, 0),
+            ("JUMP " + "x" * 33, 30, 5),
+            ("x" * 33, 23, 0),
+            ("STOP " * 1025, 28, 5120),
+            ("STOP " * 1024 + "PUSHIMM x", 28, 5120),
+            ("STOP " * 1024 + "FOO", 23, 5120),
+            ("".join(f"a{i}:" for i in range(100, 356)) + "b:", 29, 256 * 5),
+            ("".join(f"a{i}:" for i in range(100, 356)) + "a100:", 26, 256 * 5),
+            (" " * 65537, 21, 0),
+        ]:
+            self.refused(text, number, place)
+
+    def test_accepted(self):
+        for text, length in [
+            ("", 0),
+            ("//\xff anything @", 0),
+            ("STOP//x\nSTOP//", 2),
+            ("ADD: JUMP ADD", 1),
+            ("a:b:c:STOP JUMP end end:", 2),
+            ("JUMP -0", 1),
+            ("JUMP 0000000001", 1),
+            ("PUSHIMMF #aBcDeF09", 1),
+            ("x" * 32 + ": JUMP " + "x" * 32, 1),
+            (" " * 65536, 0),
+            ("STOP\r\tSTOP", 2),
+            ("ADDSP -0", 1),
+        ]:
+            answer, _ = assembled(text.encode("latin-1"))
+            self.assertEqual(answer, (0, length, 0), text)
+
+    def test_labels_settle(self):
+        made = program("JUMP end a: PUSHIMMPA a end:")
+        self.assertEqual(made.table[:3], [44 << 32 | 2, 49 << 32 | 1, 0])
+
+    def test_wrong_length(self):
+        table = [7] * 1023
+        self.assertEqual(sam.assemble(b" " * 65537, table), (31, 0, 0))
+        self.assertEqual(table, [7] * 1023)
+
+    def test_listing(self):
+        made = program("x: PUSHIMM -05 PUSHIMMF #0000abcd JUMP x ADDSP -2 STOP")
+        text = bytearray(b"?" * 20480)
+        number, length = sam.list_program(made.table, made.length, text)
+        self.assertEqual(number, 0)
+        self.assertEqual(text[:length], b"PUSHIMM -5\nPUSHIMMF #0000ABCD\nJUMP 0\nADDSP -2\nSTOP\n")
+        self.assertFalse(any(text[length:]))
+        again, table = assembled(bytes(text[:length]))
+        self.assertEqual((again, table), ((0, 5, 0), made.table))
+
+    def test_listing_refused(self):
+        text = bytearray(b"?" * 20479)
+        self.assertEqual(sam.list_program([], 0, text), (31, 0))
+        self.assertEqual(text, b"?" * 20479)
+        text = bytearray(b"?" * 20480)
+        self.assertEqual(sam.list_program([0] * 1023, 0, text), (10, 0))
+        self.assertFalse(any(text))
+
+
+class Tables(unittest.TestCase):
+    def test_unsound(self):
+        def table(*places):
+            return list(places) + [0] * (PLACES - len(places))
+
+        listing = lambda places, length: sam.list_program(places, length, bytearray(20480))[0]
+        self.assertEqual(listing(table(), 1024), 0)
+        for places, length in [
+            (table(), 1025),
+            (table(1), 1),  # STOP with an operand
+            (table(50 << 32), 1),
+            (table(1 << 38), 1),
+            (table(0, 5 << 32), 1),  # an unused place not zero
+            (table(39 << 32 | 1000), 1),
+            (table(42 << 32 | (1 << 32) - 1000), 1),
+            (table(44 << 32 | 2), 1),
+        ]:
+            self.assertEqual(listing(places, length), 10)
+
+
+class Images(unittest.TestCase):
+    def unpacked(self, bits):
+        bits += "0" * (-len(bits) % 8)
+        table = [7] * PLACES
+        answer = sam.unpack(int("1" + bits, 2).to_bytes(len(bits) // 8 + 1, "big")[1:], table)
+        return answer, table
+
+    def test_refusals(self):
+        count = lambda value: format(value, "011b")
+        code = lambda value: format(value, "06b")
+        for bits, number in [
+            ("", 41),
+            ("00000000", 41),
+            (count(1), 41),  # five bits are left for a code of six
+            (count(3) + code(0), 41),  # the padding is one more code, not two
+            (count(1) + code(1) + "0" * 16, 41),
+            (count(1025), 42),
+            (count(2047), 42),
+            (count(1) + code(50), 43),
+            (count(1) + code(63), 43),
+            (count(1) + code(39) + format(1000, "011b"), 44),
+            (count(1) + code(43) + format(2048 - 1000, "011b"), 44),
+            (count(1) + code(44) + format(2, "011b"), 44),
+            (count(0) + "00001", 45),
+            (count(0) + "0" * 13, 45),
+            (count(1) + code(0) + "0000001", 45),
+        ]:
+            answer, table = self.unpacked(bits)
+            self.assertEqual(answer, (number, 0), bits)
+            self.assertFalse(any(table))
+
+    def test_accepted(self):
+        answer, table = self.unpacked(format(1, "011b") + format(39, "06b") + format(2048 - 999, "011b"))
+        self.assertEqual((answer, table[0]), ((0, 1), 39 << 32 | (1 << 32) - 999))
+
+    def test_wrong_length(self):
+        table = [7] * 1025
+        self.assertEqual(sam.unpack(b"", table), (31, 0))
+        self.assertEqual(table, [7] * 1025)
+
+
+class Steps(unittest.TestCase):
+    def numbers(self, text, **sizes):
+        return stepped(text, **sizes)[0]
+
+    def cells(self, text, **sizes):
+        numbers, state = stepped(text + " STOP", **sizes)
+        self.assertEqual(set(numbers), {0}, text)
+        return live(state)
+
+    def test_addresses(self):
+        self.assertEqual(self.cells("PUSHIMM 4 PUSHSP PUSHIMM 1 SUB PUSHIND"), [(INT, 4), (INT, 4)])
+        self.assertEqual(self.cells("PUSHIMM 4 PUSHFBR PUSHIMM 9 STOREIND"), [(INT, 9)])
+        self.assertEqual(self.numbers("PUSHFBR PUSHIMM 9 STOREIND"), [0, 0, 6])
+        self.assertEqual(self.numbers("PUSHIMM 9 STOREOFF 0"), [0, 6])
+        self.assertEqual(self.numbers("PUSHOFF 0"), [6])
+        self.assertEqual(self.numbers("PUSHIMM 1 PUSHOFF -1"), [0, 6])
+        self.assertEqual(self.numbers("PUSHFBR PUSHIMM 16 ADD POPFBR"), [0, 0, 0, 6])
+        self.assertEqual(self.numbers("PUSHFBR PUSHIMM 1 SUB POPSP"), [0, 0, 0, 6])
+        self.assertEqual(self.numbers("PUSHFBR PUSHIMM 15 ADD POPFBR"), [0, 0, 0, 0, 2])
+
+    def test_tags(self):
+        for text in [
+            "PUSHIMM 1 PUSHSP ADD",
+            "PUSHSP PUSHSP SUB",
+            "PUSHSP PUSHIMM 1 TIMES",
+            "PUSHIMM 1 PUSHIMM 1 ADDF",
+            "PUSHIMM 1 PUSHIMM 1 CMPF",
+            "PUSHIMM 1 PUSHIMMPA 0 AND",
+            "PUSHIMM 1 PUSHIMMF #00000000 CMP",
+        ]:
+            self.assertEqual(self.numbers(text), [0, 0, 4], text)
+        for text in ["PUSHSP JUMPIND", "PUSHSP JSRIND", "PUSHIMMPA 0 PUSHIND", "PUSHIMMPA 0 POPFBR", "PUSHSP JUMPC 0"]:
+            self.assertEqual(self.numbers(text), [0, 4], text)
+        self.assertEqual(self.numbers("PUSHSP ADD"), [0, 3])  # 3 before 4
+        self.assertEqual(self.numbers("PUSHSP PUSHIMM 0 DIV"), [0, 0, 4])  # 4 before 5
+        self.assertEqual(self.numbers("PUSHIMM 1 PUSHIMM 0 MOD"), [0, 0, 5])
+        self.assertEqual(self.numbers("PUSHIMMF #7F800001 PUSHIMMF #00000000 CMPF"), [0, 0, 5])
+
+    def test_equal_and_nil(self):
+        self.assertEqual(self.cells("PUSHIMM 0 PUSHIMMF #00000000 EQUAL"), [(INT, 0)])
+        self.assertEqual(self.cells("PUSHIMMF #7FC00000 DUP EQUAL"), [(INT, 1)])
+        self.assertEqual(self.cells("PUSHIMMF #80000000 ISNIL"), [(INT, 0)])
+        self.assertEqual(self.cells("PUSHIMMPA 0 ISNIL"), [(INT, 1)])
+        self.assertEqual(self.cells("PUSHIMMF #80000000 PUSHIMMF #00000000 CMPF"), [(INT, 0)])
+
+    def test_link_and_calls(self):
+        numbers, state = stepped("PUSHIMM 7 LINK LINK STOP")
+        self.assertEqual((live(state), state.registers.fbr), ([(INT, 7), (MA, 0), (MA, 1)], 2))
+        self.assertEqual(self.cells("PUSHIMMPA f JSRIND f:"), [(PA, 2)])
+        self.assertEqual(self.cells("JSR f f:"), [(PA, 1)])
+        self.assertEqual(self.numbers("JSR 1"), [0, 2])  # PC rests at the length
+        self.assertEqual(self.cells("PUSHIMM 0 JUMPC 0 PUSHIMM 8 JUMPC e PUSHIMM 1 e:"), [])
+
+    def test_fills(self):
+        made, state = started("PUSHIMM 1 PUSHIMM 2 ADDSP -2 ADDSP 2 PUSHSP PUSHIMM 3 ADD POPSP STOP", h=64)
+        for _ in range(3):
+            self.assertEqual(sam.step(made, state), 0)
+        self.assertEqual(state.bits[:2], [1, 2])  # "Popped cells otherwise keep their contents."
+        for _ in range(5):
+            self.assertEqual(sam.step(made, state), 0)
+        self.assertEqual(live(state), [(INT, 0)] * 5)
+        self.assertEqual(state.history[state.registers.used - 1] >> 22 & 0x3FF, 3)
+
+    def test_order_of_seven_and_eight(self):
+        self.assertEqual(self.numbers("PUSHIMM 1", n=1, h=1), [7])
+        self.assertEqual(self.numbers("PUSHIMM 1", n=2, h=1), [8])
+        self.assertEqual(self.numbers("JUMP 1 STOP", h=1), [0, 8])
+        self.assertEqual(self.numbers("ADDSP 0 STOP", h=2), [0, 0])
+
+    def test_halt(self):
+        made, state = started("STOP", h=1)
+        self.assertEqual(sam.run(made, state, 0), (50, 0))
+        self.assertEqual(sam.run(made, state, 9), (0, 1))
+        self.assertEqual(sam.run(made, state, 0), (0, 0))
+        self.assertEqual(sam.step(made, state), 1)
+        state.registers.pc = 1
+        self.assertEqual(sam.step(made, state), 1)
+        self.assertEqual(sam.step_back(made, state), 0)
+        self.assertEqual((state.registers.halt, state.registers.pc), (0, 0))
+        self.assertEqual(sam.step_back(made, state), 9)
+
+    def test_run(self):
+        made, state = started("a: JUMP a")
+        self.assertEqual(sam.run(made, state, 1000001), (11, 0))
+        self.assertEqual(sam.run(made, state, 1000), (50, 1000))
+        made, state = started("PUSHIMM 1 ADD")
+        self.assertEqual(sam.run(made, state, 5), (3, 1))
+
+    def test_reset_sizes(self):
+        made = program("STOP")
+        refused = [(0, 0, 0, 11), (1001, 1001, 0, 11), (5, 4, 0, 11), (5, 5, 8193, 11)]
+        for n, tags, h, number in refused + [(1, 1, 8192, 0)]:
+            state = sam.State(bits=[9] * n, tags=[9] * tags, history=[9] * h)
+            self.assertEqual(sam.reset(made, state), number)
+            if number:
+                self.assertEqual(state.registers, sam.Registers())
+                self.assertEqual(set(state.bits) | set(state.tags) | set(state.history) | {9}, {9})
+        state = sam.State(bits=[9], tags=[9], history=[])
+        self.assertEqual(sam.reset(sam.Program(made.table, 1025), state), 10)
+
+
+class Soundness(unittest.TestCase):
+    def broken(self, **changes):
+        """The numbers of step and step-back on a state with one fault."""
+        made, state = started("PUSHIMM 1 PUSHIMM 2 ADD STOP", n=4, h=8)
+        sam.step(made, state)
+        for name, value in changes.items():
+            if name in ("bits", "tags"):
+                address, new = value
+                getattr(state, name)[address] = new
+            elif name == "history":
+                state.history[:2] = value
+            else:
+                setattr(state.registers, name, value)
+        before = (list(state.bits), list(state.tags), list(state.history), state.registers)
+        number = sam.step_back(made, state)
+        if number:
+            self.assertEqual((state.bits, state.tags, state.history, state.registers), before)
+        return number
+
+    def test_registers(self):
+        wrong = [("n", 3), ("n", 5), ("h", 7), ("h", 9), ("sp", 4), ("fbr", 4), ("pc", 5), ("halt", 2), ("used", 9)]
+        for name, value in wrong:
+            self.assertEqual(self.broken(**{name: value}), 10, name)
+        self.assertEqual(self.broken(halt=1), 0)
+        self.assertEqual(self.broken(tags=(3, 4)), 10)
+        self.assertEqual(self.broken(used=0), 9)
+
+    def test_program_addresses(self):
+        made, state = started("STOP", n=4)
+        state.tags[3], state.bits[3] = PA, 2
+        self.assertEqual(sam.step(made, state), 10)
+        state.bits[3] = 1
+        self.assertEqual(sam.step(made, state), 0)
+
+    def test_records(self):
+        def cell(address, tag=0, bits=0, rest=0):
+            return address << 53 | tag << 51 | bits << 19 | rest
+
+        def mark(pc=0, sp=0, fbr=0, written=1, rest=0):
+            return 1 << 63 | pc << 52 | sp << 42 | fbr << 32 | written << 22 | rest
+
+        for places, number in [
+            ([cell(0), mark()], 0),
+            ([cell(3, PA, 4), mark(pc=3, sp=3, fbr=3)], 0),
+            ([cell(3, PA, 5), mark()], 10),
+            ([cell(4), mark()], 10),
+            ([cell(0, rest=1), mark()], 10),
+            ([mark(), mark()], 10),
+            ([cell(0), mark(rest=1)], 10),
+            ([cell(0), mark() - (1 << 63)], 10),
+            ([cell(0), mark(pc=4)], 10),
+            ([cell(0), mark(sp=4)], 10),
+            ([cell(0), mark(fbr=4)], 10),
+            ([cell(0), mark(written=2)], 10),
+            ([~0 % (1 << 64), mark(written=0)], 0),
+        ]:
+            self.assertEqual(self.broken(history=places), number, places)
+
+    def test_rising(self):
+        made, state = started("STOP", n=4, h=3)
+        state.registers.used = 3
+        for first, second, number in [(1, 1, 10), (2, 1, 10), (1, 3, 0)]:
+            state.history[:] = [first << 53, second << 53, 1 << 63 | 2 << 22]
+            self.assertEqual(sam.step_back(made, state), number)
+
+
+class Floats(unittest.TestCase):
+    """Against the host: a sum, difference, product or quotient of binary32 values taken in binary64 and rounded again
+    is rounded as if once, since 53 is at least 2 * 24 + 2."""
+
+    OPERATIONS = [
+        (floats.add, lambda a, b: a + b),
+        (floats.subtract, lambda a, b: a - b),
+        (floats.multiply, lambda a, b: a * b),
+        (floats.divide, lambda a, b: a / b),
+    ]
+
+    def host(self, operation, below, top):
+        below, top = (struct.unpack("<f", struct.pack("<I", bits))[0] for bits in (below, top))
+        try:
+            result = operation(below, top)
+        except ZeroDivisionError:
+            return None
+        if result != result:
+            return floats.NAN
+        return struct.unpack("<I", bytes(ctypes.c_float(result)))[0]
+
+    def patterns(self, chooser):
+        edges = [0, 1, 0x7FFFFF, 0x800000, 0x3F800000, 0x3F800001, 0x7F7FFFFF, 0x7F800000, 0x7F800001, 0x7FC00000]
+        edges += [bits | 1 << 31 for bits in edges]
+        while True:
+            near = chooser.choice(edges) + chooser.randrange(-3, 4)
+            base = chooser.randrange(1 << 32)
+            alike = base & 0xFF800000 | chooser.randrange(1 << 23)
+            yield chooser.choice([near % (1 << 32), base, alike]), chooser.choice([chooser.choice(edges), base])
+
+    def test_against_host(self):
+        for (below, top), _ in zip(self.patterns(random.Random(1)), range(20000)):
+            for ours, theirs in self.OPERATIONS:
+                expected = self.host(theirs, below, top)
+                if expected is not None:
+                    self.assertEqual(ours(below, top), expected, (ours.__name__, hex(below), hex(top)))
+
+    def test_division_by_zero(self):
+        one, zero, minus = 0x3F800000, 0, 1 << 31
+        self.assertEqual(floats.divide(one, zero), 0x7F800000)
+        self.assertEqual(floats.divide(one, minus), 0xFF800000)
+        self.assertEqual(floats.divide(zero, minus), floats.NAN)
+        self.assertEqual(floats.divide(0x7F800000, minus), 0xFF800000)
+        self.assertEqual(floats.divide(floats.NAN, zero), floats.NAN)
+
+    def test_compare(self):
+        self.assertEqual(floats.compare(0x3F800000, 0x40000000), 1)
+        self.assertEqual(floats.compare(0xBF800000, 0xC0000000), -1)
+        self.assertEqual(floats.compare(0xFF800000, 0x7F800000), 1)
+        self.assertEqual(floats.compare(0, 1 << 31), 0)
+
+
+class Console(unittest.TestCase):
+    def test_example(self):
+        self.assertEqual(sam.console(b"PUSHIMM 6 PUSHIMM 4 CMP STOP"), "end 0 steps 4\nPC 3 SP 1 FBR 0\n0 INT -1\n")
+
+    def test_lines(self):
+        printed = sam.console(b"PUSHIMMF #c0200000 PUSHSP PUSHIMM 5 SUB PUSHIMMPA 3 a: JUMP a")
+        self.assertEqual(
+            printed,
+            "end 50 steps 100000\nPC 5 SP 3 FBR 0\n0 FLOAT #C0200000\n1 MA -4\n2 PA 3\n",
+        )
+        self.assertEqual(sam.console(b""), "end 2 steps 0\nPC 0 SP 0 FBR 0\n")
+        self.assertEqual(sam.console(b"STOP FOO"), "refused 23 5\n")
+
+
+if __name__ == "__main__":
+    unittest.main()

@@ -1,0 +1,312 @@
+/* Tests of the C library through sam.h: the complaint, and samples of every refusal. One line for each check. */
+#include <stdbool.h>
+#include <stdio.h>
+#include <string.h>
+
+#include "sam.h"
+
+static unsigned checks, failed;
+
+static void check(const char *name, uint64_t expected, uint64_t answered) {
+    bool right = expected == answered;
+    checks++;
+    failed += !right;
+    printf("%s %s: %llu", right ? "ok  " : "FAIL", name, (unsigned long long)answered);
+    if (!right) printf(", should be %llu", (unsigned long long)expected);
+    putchar('\n');
+}
+
+/* ---- a program and a machine to call with */
+
+static uint64_t table[SAM_TABLE_PLACES + 1], told[2];
+static uint64_t length;
+static uint8_t text[SAM_TEXT_BYTES + 1], image[SAM_IMAGE_BYTES + 1];
+
+static uint64_t registers[SAM_REGISTERS + 1];
+static uint32_t bits[SAM_CELL_LIMIT + 1];
+static uint8_t tags[SAM_CELL_LIMIT + 1];
+static uint64_t history[SAM_HISTORY_LIMIT + 1];
+static size_t n, h;
+
+static uint32_t assemble_bytes(const char *source, size_t size) {
+    uint32_t number = sam_assemble((const uint8_t *)source, size, table, SAM_TABLE_PLACES, told, 2);
+    length = told[0];
+    return number;
+}
+
+static uint32_t assemble(const char *source) { return assemble_bytes(source, strlen(source)); }
+
+static uint32_t reset(size_t cells, size_t places) {
+    n = cells;
+    h = places;
+    return sam_reset(table, SAM_TABLE_PLACES, length, registers, SAM_REGISTERS, bits, n, tags, n, history, h);
+}
+
+static uint32_t step(void) {
+    return sam_step(table, SAM_TABLE_PLACES, length, registers, SAM_REGISTERS, bits, n, tags, n, history, h);
+}
+
+static uint32_t step_back(void) {
+    return sam_step_back(table, SAM_TABLE_PLACES, length, registers, SAM_REGISTERS, bits, n, tags, n, history, h);
+}
+
+static uint32_t run(uint64_t limit) {
+    return sam_run(table, SAM_TABLE_PLACES, length, limit, registers, SAM_REGISTERS, bits, n, tags, n, history, h, told,
+                   1);
+}
+
+static void begin(const char *source, size_t cells, size_t places) {
+    check("  assemble", 0, assemble(source));
+    check("  reset", 0, reset(cells, places));
+}
+
+static void check_cell(const char *name, size_t address, uint8_t tag, uint32_t value) {
+    check(name, tag, tags[address]);
+    check(name, value, bits[address]);
+}
+
+/* ---- the complaint */
+
+static void test_complaint(void) {
+    puts("the complaint: a trial over a dwell of 40 tenths, then one step-back");
+    begin("PUSHIMM 40 PUSHIMMF #40200000 STOREOFF 0", 16, 6);
+    check("  step", 0, step());
+    check_cell("  before the trial", 0, SAM_INT, 40);
+    check("  step", 0, step());
+    check("  step", 0, step());
+    check_cell("  after the trial", 0, SAM_FLOAT, 0x40200000);
+    check("  cell place", UINT64_C(0x0000000001400000), history[4]);
+    check("  step place", UINT64_C(0x8020080000400000), history[5]);
+    check("  step-back", 0, step_back());
+    check_cell("  after the step-back", 0, SAM_INT, 40);
+    check("  freed place", 0, history[4]);
+    check("  freed place", 0, history[5]);
+    check("  PC", 2, registers[SAM_PC]);
+    check("  SP", 2, registers[SAM_SP]);
+    check("  U", 4, registers[SAM_U]);
+    check("  step-back", 0, step_back());
+    check("  step-back", 0, step_back());
+    check("  step-back with U = 0", 9, step_back());
+}
+
+/* ---- told and registers of another length */
+
+static uint32_t run_with(size_t registers_len, size_t told_len) {
+    return sam_run(table, SAM_TABLE_PLACES, length, 9, registers, registers_len, bits, n, tags, n, history, h, told,
+                   told_len);
+}
+
+static void test_lengths(void) {
+    const uint8_t *stop = (const uint8_t *)"STOP";
+    puts("told and registers of another length change nothing");
+    begin("PUSHIMM 1 STOP", 4, 8);
+    told[0] = told[1] = 77;
+    check("  assemble", 31, sam_assemble(stop, 4, table, SAM_TABLE_PLACES, told, 1));
+    check("  list", 31, sam_list(table, SAM_TABLE_PLACES, length, text, SAM_TEXT_BYTES, told, 0));
+    check("  pack", 31, sam_pack(table, SAM_TABLE_PLACES, length, image, SAM_IMAGE_BYTES, told, 2));
+    check("  unpack", 31, sam_unpack(stop, 4, table, SAM_TABLE_PLACES, told, 2));
+    check("  run", 31, run_with(SAM_REGISTERS, 2));
+    check("  told[0]", 77, told[0]);
+    check("  told[1]", 77, told[1]);
+    check("  table[0]", UINT64_C(1) << 32 | 1, table[0]);
+    registers[SAM_N] = 3;
+    check("  reset", 10, sam_reset(table, SAM_TABLE_PLACES, length, registers, 6, bits, n, tags, n, history, h));
+    check("  step", 10, sam_step(table, SAM_TABLE_PLACES, length, registers, 8, bits, n, tags, n, history, h));
+    check("  back", 10, sam_step_back(table, SAM_TABLE_PLACES, length, registers, 0, bits, n, tags, n, history, h));
+    check("  run", 10, run_with(6, 1));
+    check("  N", 3, registers[SAM_N]);
+    check("  PC", 0, registers[SAM_PC]);
+}
+
+/* ---- the machine's refusals */
+
+/* Runs a source on few cells and checks the number that ends it and the steps made before. */
+static void ends(const char *source, size_t cells, size_t places, uint32_t number, uint64_t steps) {
+    printf("%s\n", source);
+    begin(source, cells, places);
+    check("  run", number, run(100));
+    check("  steps", steps, told[0]);
+}
+
+static void test_steps(void) {
+    ends("PUSHIMM 6 PUSHIMM 4 CMP STOP", 16, 0, 0, 4);
+    check_cell("  CMP", 0, SAM_INT, UINT32_MAX);
+    check("  step with HALT 1", 1, step());
+    check("  run with HALT 1 and limit 0", 0, run(0));
+    ends("PUSHIMM 1", 16, 0, 2, 1);
+    ends("PUSHIMM 1 ADD", 16, 0, 3, 1);
+    ends("ADDSP -1", 16, 0, 3, 0);
+    ends("PUSHIMM 1 PUSHSP ADD", 16, 0, 4, 2);
+    ends("PUSHIMM 1 PUSHIMM 0 DIV", 16, 0, 5, 2);
+    ends("PUSHIMMF #7F800001 DUP CMPF", 16, 0, 5, 2);
+    ends("PUSHSP PUSHIND", 16, 0, 6, 1);
+    ends("PUSHIMM 1 PUSHIMM 1", 2, 0, 7, 1);
+    ends("ADDSP 4", 4, 0, 7, 0);
+    ends("PUSHIMM 1 PUSHIMM 2", 16, 3, 8, 1);
+    ends("a: JUMP a", 16, 0, 50, 100);
+    check("  step-back with H = 0", 9, step_back());
+    check("  limit above 1,000,000", 11, run(1000001));
+    check("  steps", 0, told[0]);
+}
+
+static uint32_t reset_with(size_t places, size_t cells, size_t tag_count) {
+    return sam_reset(table, places, length, registers, SAM_REGISTERS, bits, cells, tags, tag_count, history, 0);
+}
+
+static void test_reset(void) {
+    puts("reset: sizes");
+    check("  assemble", 0, assemble("STOP"));
+    bits[0] = 5;
+    check("  no cells", 11, reset(0, 0));
+    check("  1,001 cells", 11, reset(1001, 0));
+    check("  8,193 places", 11, reset(1, 8193));
+    registers[SAM_N] = 9;
+    check("  one tag too few", 11, reset_with(SAM_TABLE_PLACES, 4, 3));
+    check("  N", 0, registers[SAM_N]);
+    check("  cell 0", 5, bits[0]);
+    check("  11 before 10", 11, reset_with(0, 0, 0));
+    check("  no table", 10, reset_with(0, 4, 4));
+    check("  largest", 0, reset(1000, 8192));
+    check("  N", 1000, registers[SAM_N]);
+    check("  H", 8192, registers[SAM_H_PLACES]);
+    check("  cell 0", 0, bits[0]);
+}
+
+/* One value broken, the call, and the value set right again. */
+static void broken(const char *name, uint64_t *value, uint64_t wrong) {
+    uint64_t right = *value;
+    *value = wrong;
+    check(name, 10, step());
+    check(name, 10, step_back());
+    check(name, 10, run(1));
+    check(name, wrong, *value);
+    *value = right;
+}
+
+static void test_broken(void) {
+    puts("10: broken state or table");
+    begin("PUSHIMM 1 STOP", 4, 8);
+    check("  step", 0, step());
+    broken("  N", &registers[SAM_N], 5);
+    broken("  H", &registers[SAM_H_PLACES], 7);
+    broken("  PC", &registers[SAM_PC], 3);
+    broken("  SP", &registers[SAM_SP], 4);
+    broken("  FBR", &registers[SAM_FBR], 4);
+    broken("  HALT", &registers[SAM_HALT], 2);
+    broken("  U", &registers[SAM_U], 9);
+    broken("  length", &length, 1025);
+    broken("  code", &table[0], UINT64_C(50) << 32);
+    broken("  unused place", &table[1023], 1);
+    tags[3] = 4;
+    check("  tag 4", 10, step());
+    tags[3] = SAM_PA, bits[3] = 3;
+    check("  PA above length", 10, step());
+    tags[3] = SAM_INT, bits[3] = 0;
+    history[1] |= 1;
+    check("  top record", 10, step_back());
+    history[1] &= ~UINT64_C(1);
+    check("  all set right", 0, step_back());
+}
+
+/* ---- the assembler's refusals */
+
+static void refused(const char *source, uint32_t number, uint64_t place) {
+    table[0] = 9;
+    check(source, number, assemble(source));
+    check("  length", 0, told[0]);
+    check("  place", place, told[1]);
+    check("  table zeroed", 0, table[0]);
+}
+
+static char large[SAM_SOURCE_LIMIT + 2];
+
+/* A piece of text, repeated. */
+static const char *repeated(const char *piece, size_t count) {
+    large[0] = '\0';
+    for (size_t i = 0, at = 0; i < count; i++, at += strlen(piece)) strcpy(large + at, piece);
+    return large;
+}
+
+static const char *labels(unsigned count) {
+    size_t at = 0;
+    for (unsigned i = 0; i < count; i++) at += (size_t)sprintf(large + at, "a%03u:", i);
+    return large;
+}
+
+static void test_refused_sources(void) {
+    puts("refused sources");
+    check("  table of 1,023 places", 31, sam_assemble((const uint8_t *)"STOP", 4, table, 1023, told, 2));
+    memset(large, ' ', sizeof large);
+    check("  65,537 bytes", 21, assemble_bytes(large, SAM_SOURCE_LIMIT + 1));
+    check("  65,536 bytes", 0, assemble_bytes(large, SAM_SOURCE_LIMIT));
+    refused("STOP FOO@", 22, 8);
+    refused("STOP FOO", 23, 5);
+    refused("PUSHIMM", 24, 7);
+    refused("JUMP a: STOP", 24, 5);
+    refused("PUSHIMM 2147483648", 25, 8);
+    refused("STOP JUMP 3", 25, 10);
+    refused("a: a:", 26, 3);
+    refused("JUMP ADD", 27, 5);
+    refused("xxxxxxxxxxxxxxxxxxxxxxxxxxxxxxxxx:", 30, 0);
+    puts("1,025 instructions, then 257 labels");
+    check("  28", 28, assemble(repeated("STOP ", 1025)));
+    check("  place", 5120, told[1]);
+    check("  29", 29, assemble(labels(257)));
+    check("  place", 1280, told[1]);
+}
+
+/* ---- lists and images */
+
+static void test_list(void) {
+    const char *source = "PUSHIMM -5\nPUSHIMMF #0000ABCD\nJUMP 0\nSTOP\n";
+    puts("list");
+    check("  assemble", 0, assemble(source));
+    check("  text too short", 31, sam_list(table, SAM_TABLE_PLACES, length, text, SAM_TEXT_BYTES - 1, told, 1));
+    check("  list", 0, sam_list(table, SAM_TABLE_PLACES, length, text, SAM_TEXT_BYTES, told, 1));
+    check("  length", strlen(source), told[0]);
+    check("  the same text", 0, (uint64_t)(memcmp(text, source, strlen(source)) != 0));
+    check("  the rest zero", 0, text[strlen(source)]);
+    check("  broken table", 10, sam_list(table, SAM_TABLE_PLACES, 2, text, SAM_TEXT_BYTES, told, 1));
+    check("  length", 0, told[0]);
+    check("  zeroed", 0, text[0]);
+}
+
+static uint32_t unpack(const char *packed, size_t size) {
+    return sam_unpack((const uint8_t *)packed, size, table, SAM_TABLE_PLACES, told, 1);
+}
+
+static void test_images(void) {
+    puts("pack and unpack");
+    check("  assemble", 0, assemble("PUSHIMM 5 STOP"));
+    check("  image too long", 31, sam_pack(table, SAM_TABLE_PLACES, length, image, SAM_IMAGE_BYTES + 1, told, 1));
+    check("  pack", 0, sam_pack(table, SAM_TABLE_PLACES, length, image, SAM_IMAGE_BYTES, told, 1));
+    check("  length", 7, told[0]);
+    check("  P10", 0, (uint64_t)(memcmp(image, "\x00\x40\x80\x00\x00\x02\x80", 8) != 0));
+    check("  unpack", 0, unpack("\x00\x40\x80\x00\x00\x02\x80", 7));
+    check("  length", 2, told[0]);
+    check("  place 0", UINT64_C(1) << 32 | 5, table[0]);
+    check("  table of 1,025 places", 31, sam_unpack(image, 7, table, SAM_TABLE_PLACES + 1, told, 1));
+    check("  ends early", 41, unpack("\x00\x40\x80\x00\x00\x02", 6));
+    check("  zeroed", 0, table[0]);
+    check("  length", 0, told[0]);
+    check("  count 2,047", 42, unpack("\xFF\xE0", 2));
+    check("  code 63", 43, unpack("\x00\x3F\x80", 3));
+    check("  ADDSP 1000", 44, unpack("\x00\x33\xBE\x80", 4));
+    check("  padding", 45, unpack("\x00\x01", 2));
+    check("  a byte left over", 45, unpack("\x00\x40\x80\x00\x00\x02\x80\x00", 8));
+    check("  P11", 0, unpack("\x00\x33\xFF\xE0", 4));
+    check("  ADDSP -2", UINT64_C(39) << 32 | UINT32_C(0xFFFFFFFE), table[0]);
+}
+
+int main(void) {
+    test_complaint();
+    test_lengths();
+    test_steps();
+    test_reset();
+    test_broken();
+    test_refused_sources();
+    test_list();
+    test_images();
+    printf("%u checks, %u failed\n", checks, failed);
+    return failed != 0;
+}

@@ -1,0 +1,3 @@
+pub mod Signed
+pub mod Reach
+pub mod PastEnd

@@ -1,0 +1,3 @@
+-- What the inner contracts of `machine` cite.
+pub mod Small
+pub mod Reach

@@ -1,0 +1,5 @@
+// The machine: one step, and a run of steps. A step first decides what it does or why it is refused, then carries that out.
+mod addresses;
+mod decide;
+mod effects;
+mod families;

@@ -1,0 +1,70 @@
+-- The codes that have an operand are nine; every other code has none. Assumes nothing.
+use Prim.Native.Nat.{ℕ, _≤_, _<_}
+use mathlib.Core.Path.{_≡_, refl, sym, ap, _∙_}
+use mathlib.Core.Bool.{Bool, true, false, _||_, false≢true}
+use mathlib.Core.List.{List, [], _∷_}
+use lib.Dec.{eqb, ltb}
+use lib.ListN.{length, getD, List·getD-eq-default}
+use borrow.Author.Tests.{ltb-true, ltb-false, ne-eqb}
+use Rattle.rules.specs.Lists.{text}
+use Rattle.rules.specs.Instructions.{Row, rows, rowOf, kindOf, codes}
+use Rattle.rules.specs.declared.Kind.{Kind}
+use Rattle.rules.specs.declared.Kind.the-variants.{Bare, Immediate, Pattern, Offset, Target}
+use Rattle.program.proofs.Rows.{each, each-at}
+
+isBare : Kind → Bool
+isBare Bare = true
+isBare Immediate = false
+isBare Pattern = false
+isBare Offset = false
+isBare Target = false
+
+bare-is : (k : Kind) → isBare k ≡ true → k ≡ Bare
+unfolding isBare
+bare-is Bare h = refl
+bare-is Immediate h = absurd (false≢true h)
+bare-is Pattern h = absurd (false≢true h)
+bare-is Offset h = absurd (false≢true h)
+bare-is Target h = absurd (false≢true h)
+
+-- one of the numbers
+oneOf : List ℕ → ℕ → Bool
+oneOf [] c = false
+oneOf (x ∷ xs) c = eqb c x || oneOf xs c
+
+-- the codes with an operand, the last first
+abbrev pub operandCodes : List ℕ
+operandCodes = 49 ∷ 47 ∷ 45 ∷ 44 ∷ 43 ∷ 42 ∷ 39 ∷ 2 ∷ 1 ∷ []
+
+-- none of the numbers, as the `_` of a match has it
+abbrev pub NoneOf : List ℕ → ℕ → Type 0
+NoneOf [] c = Unit {0}
+NoneOf (x ∷ xs) c = NoneOf xs c × (c ≡ x → ⊥)
+
+none-one : (l : List ℕ) (c : ℕ) → NoneOf l c → oneOf l c ≡ false
+unfolding oneOf
+none-one [] c n = refl
+none-one (x ∷ xs) c n = rw (ne-eqb c x (n .1), none-one xs c (n .0))
+
+rowRight : ℕ → Row → Bool
+rowRight c r = oneOf operandCodes c || isBare (r .kind)
+
+rows-right : each (rowOf codes) rowRight 0 rows ≡ true
+unfolding rowRight oneOf isBare rows rowOf
+rows-right = refl
+
+by-test : {A : Type 0} (b : Bool) → (b ≡ true → A) → (b ≡ false → A) → A
+by-test true f g = f refl
+by-test false f g = g refl
+
+length-rows : length rows ≡ 50
+unfolding rows
+length-rows = refl
+
+pub bare-elsewhere : (c : ℕ) → NoneOf operandCodes c → kindOf c ≡ Bare
+unfolding kindOf rowOf rowRight rows
+bare-elsewhere c n =
+    by-test (ltb c (length rows))
+    (λ h. bare-is (kindOf c)
+    (sym (ap (λ (b : Bool). b || isBare (kindOf c)) (none-one operandCodes c n)) ∙ each-at (rowOf codes) rowRight rows rows-right c (ltb-true c (length rows) h)))
+    (λ h. ap (λ (r : Row). r .kind) (List·getD-eq-default rows _ (ltb-false c (length rows) h)))

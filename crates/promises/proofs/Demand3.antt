@@ -1,0 +1,62 @@
+-- Demand 3: "After any series of steps, runs and step-backs from a reset, with S steps and B step-backs accepted, everything (registers, cells,
+-- tags, history) equals a fresh reset and S minus B steps. With history room, a step-back is refused exactly when S equals B." For every
+-- program, every lent memory that a reset accepts, of any N and H, H = 0 among them, and every series, refused requests among them:
+-- `demand3`. What it says is specs/Series.antt, over the definitions that the contracts of the calls cite. Assumes nothing.
+use Prim.Native.Nat.{ℕ, zero, suc, _+_, _-_}
+use mathlib.Core.Path.{_≡_, refl, sym, ap, _∙_, subst}
+use mathlib.Core.Bool.{Bool, true, false, _||_, or-true}
+use mathlib.Core.List.{List}
+use native.Mathlib.Nat.{pos-of-ne-zero}
+use native.Mathlib.Omega.{arith}
+use lib.Dec.{eqb}
+use borrow.Author.Tests.{eqb-true, eqb-false, eq-eqb, ne-eqb}
+use Rattle.rules.specs.Table.{Program}
+use Rattle.rules.specs.State.{Memory}
+use Rattle.rules.specs.Step.{Stepped}
+use Rattle.rules.specs.Back.{back}
+use Rattle.rules.specs.Reset as Reset
+use Rattle.rules.specs.declared.Begun.the-variants.{Ready}
+use Rattle.promises.specs.Series.{Request, Session, refuses, series, fresh, Promised}
+use Rattle.promises.proofs.Runs.{standing, afterSteps}
+use Rattle.promises.proofs.Demand3Trail.{State, Good, Trail, back-empty, back-none, good-trail, steps-trail, back-trail}
+use Rattle.promises.proofs.Demand3Reset.{Accepted, left, reset-accepted, good-reset, reset-empty}
+use Rattle.promises.proofs.Demand3Kept.{stateOf, Kept, keep-series}
+
+module _ (p : Program) (s₀ : State) (good₀ : Good p s₀) (empty : s₀ .registers .used ≡ 0) where
+  -- a step-back is accepted exactly where the trail has a step to take back, and the machine a history to do it by
+  refused-when : (s : Session) (k : ℕ) → Trail p s₀ k (stateOf s) → s .made ≡ s .undone + k → (b : Bool) → eqb (s .registers .h) 0 ≡ b
+      → refuses (back p (s .registers) (s .memory) .answer) ≡ (b || eqb (s .made) (s .undone))
+  refused-when s zero q c b x =
+      ap (λ (o : Stepped). refuses (o .answer))
+      (back-empty p (stateOf s) (good-trail p s₀ good₀ 0 (stateOf s) q) (ap (λ (t : State). t .registers .used) q ∙ empty))
+      ∙ sym (ap (λ (y : Bool). b || y) (eq-eqb (s .made) (s .undone) (omega (arith, c))) ∙ or-true b)
+  refused-when s (suc k) t c true x =
+      ap (λ (o : Stepped). refuses (o .answer)) (back-none p (stateOf s) (good-trail p s₀ good₀ (suc k) (stateOf s) t) (eqb-true _ _ x))
+  refused-when s (suc k) t c false x =
+      ap (λ (o : Stepped). refuses (o .answer)) (back-trail p s₀ good₀ k (stateOf s) t (pos-of-ne-zero (eqb-false _ _ x)))
+      ∙ sym (ne-eqb (s .made) (s .undone) (λ e. omega (arith, c, e)))
+
+  -- a kept session is where S minus B steps lead
+  after-kept : (s : Session) → Kept p s₀ s
+      → afterSteps p (s .made - s .undone) (s₀ .registers) (s₀ .memory) ≡ standing (s .made - s .undone) (s .registers) (s .memory)
+  after-kept s w =
+      let far : w .far ≡ s .made - s .undone = omega (arith, w .count) in
+      subst (λ (n : ℕ). afterSteps p n (s₀ .registers) (s₀ .memory) ≡ standing n (s .registers) (s .memory)) far
+      (steps-trail p s₀ good₀ (w .far) (stateOf s) (w .trail))
+
+pub demand3 : (p : Program) (m : Memory) → Reset.reset p m .answer .begun ≡ Ready → (qs : List Request) → Promised p m (series p qs (fresh p m))
+demand3 p m ready qs =
+    let a : Accepted p m = reset-accepted p m ready in
+    let s₀ : State = left (Reset.reset p m) in
+    let good₀ : Good p s₀ = good-reset p m a in
+    let empty : s₀ .registers .used ≡ 0 = reset-empty p m a in
+    let s : Session = series p qs (fresh p m) in
+    let w : Kept p s₀ s = keep-series p s₀ good₀ empty qs (fresh p m) (record { far = 0; trail = refl; count = refl }) in
+    let same = after-kept p s₀ good₀ empty s w in
+    record {
+      within = omega (arith, w .count);
+      registers = ap (λ (t : Session). t .registers) (sym same);
+      memory = ap (λ (t : Session). t .memory) (sym same);
+      steps = ap (λ (t : Session). t .made) same;
+      refused = refused-when p s₀ good₀ empty s (w .far) (w .trail) (w .count) (eqb (s .registers .h) 0) refl;
+    }

@@ -1,0 +1,89 @@
+-- A reset that is accepted leaves a good state: sound, its cells of 32 bits, its history zero. Assumes nothing.
+use Prim.Native.Nat.{ℕ, _≤_, zero-le}
+use mathlib.Core.Path.{_≡_, refl, sym, ap, _∙_, subst}
+use mathlib.Core.Bool.{Bool, true, false, cond}
+use native.Mathlib.Nat.{sub-zero}
+use native.Mathlib.Omega.{arith}
+use lib.Dec.{lit<}
+use lib.ListN.{length, getD, replicate, length-replicate}
+use borrow.Author.Tests.{leb-true, eqb-true}
+use Rattle.rules.specs.Lists.{every}
+use Rattle.rules.specs.Table.{Program, soundTable}
+use Rattle.rules.specs.Tags.{int}
+use Rattle.rules.specs.State.{Memory}
+use Rattle.rules.specs.Reset.{Started, denied, sizeTests, zeroed, begun, reset}
+use Rattle.rules.specs.declared.MachineRefusal.{MachineRefusal}
+use Rattle.rules.specs.declared.MachineRefusal.the-variants.{Broken, OutsideSizes}
+use Rattle.rules.specs.declared.Begun.the-variants.{Ready, NotReady}
+use Rattle.rules.proofs.Tests.{every-at}
+use Rattle.rules.proofs.Fair.{FairCell}
+use Rattle.rules.proofs.Effects.{fair-plain}
+use Rattle.rules.proofs.Sound.{zeros-at, facts-sound}
+use Rattle.promises.proofs.Demand3Trail.{State, Good}
+
+-- ---- a reset that is accepted
+
+-- its tests passed
+pub record Accepted (p : Program) (m : Memory) : Type 0 where
+  pub sizes : every (sizeTests m) ≡ true
+  pub table : soundTable p ≡ true
+  pub leaves : reset p m ≡ begun m
+
+not-denied : {A : Type 0} (e : MachineRefusal) → NotReady e ≡ Ready → A
+not-denied e q = let z : _≡_ {A = ℕ} 0 1 = cc in absurd (let y : ⊥ = omega arith in y)
+
+pub reset-accepted : (p : Program) (m : Memory) → reset p m .answer .begun ≡ Ready → Accepted p m
+unfolding reset
+reset-accepted p m = go (every (sizeTests m)) refl (soundTable p) refl
+  where
+    go : (a : Bool) → every (sizeTests m) ≡ a → (b : Bool) → soundTable p ≡ b
+        → cond a (cond b (begun m) (denied m Broken)) (denied m OutsideSizes) .answer .begun ≡ Ready → Accepted p m
+    go true x true y q = record { sizes = x; table = y; leaves = rw (x, y) refl }
+    go true x false y q = not-denied Broken q
+    go false x b y q = not-denied OutsideSizes q
+
+-- and a reset is accepted wherever they pass, so that demand 3's premise is met by every sound table and all lent memory within "Sizes"
+pub reset-ready : (p : Program) (m : Memory) → every (sizeTests m) ≡ true → soundTable p ≡ true → reset p m .answer .begun ≡ Ready
+unfolding reset
+reset-ready p m sizes table = rw (sizes, table) refl
+
+-- ---- what it leaves
+
+-- where a reset leaves the machine
+abbrev pub left : Started → State
+left o = record { registers = o .answer .registers; memory = o .memory }
+
+good-begun : (p : Program) (m : Memory) → Accepted p m → Good p (left (begun m))
+good-begun p m a =
+    let at : (k : ℕ) → getD (sizeTests m) k true ≡ true = λ k. every-at (sizeTests m) k (a .sizes) in
+    let some : 1 ≤ length (m .bits) = leb-true _ _ (at 0) in
+    let zero-cell : FairCell (p .count) (int 0) = fair-plain (p .count) 0 0 zero-le in
+    record {
+      sound =
+          facts-sound p (left (begun m) .registers) (zeroed m)
+          (record {
+            table = a .table;
+            some = some;
+            few = leb-true _ _ (at 1);
+            short = leb-true _ _ (at 2);
+            bits = length-replicate (length (m .bits)) 0;
+            tags = length-replicate (length (m .tags)) 0 ∙ eqb-true _ _ (at 3);
+            history = length-replicate (length (m .history)) 0;
+            sp = some;
+            fbr = some;
+            pc = zero-le;
+            halt = zero-le;
+            used = zero-le;
+            cells = λ k. rw (zeros-at (length (m .bits)) k, zeros-at (length (m .tags)) k) zero-cell;
+          });
+      narrow = λ k. rw (zeros-at (length (m .bits)) k) (lit< tt);
+      blank = ap (λ (k : ℕ). replicate k 0) (sym (sub-zero (length (m .history))));
+    }
+
+module _ (p : Program) (m : Memory) (a : Accepted p m) where
+  pub good-reset : Good p (left (reset p m))
+  good-reset = subst (λ (o : Started). Good p (left o)) (sym (a .leaves)) (good-begun p m a)
+
+  -- "U to 0"
+  pub reset-empty : left (reset p m) .registers .used ≡ 0
+  reset-empty = ap (λ (o : Started). left o .registers .used) (a .leaves)

@@ -1,0 +1,9 @@
+pub mod Unique
+pub mod Runs
+pub mod Demand3Trail
+pub mod Demand3Reset
+pub mod Demand3Kept
+pub mod Demand3
+-- The demands, shown.
+pub mod ListingRound
+pub mod Listing

@@ -1,0 +1,4 @@
+pub mod Filled
+pub mod Chain
+pub mod Parts
+pub mod Resets

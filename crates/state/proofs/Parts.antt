@@ -1,0 +1,68 @@
+-- A state's soundness in the parts that are judged one by one, and what a sound state gives to those who lean on it. Assumes nothing.
+use Prim.Native.Nat.{ℕ, _+_, _≤_, _<_}
+use mathlib.Core.Path.{_≡_, refl, sym, ap, ap₂, _∙_}
+use mathlib.Core.Bool.{Bool, true, false, _&&_, and-true, and-assoc}
+use mathlib.Core.List.{List}
+use lib.ListN.{length, getD, drop, drop-of-length-le}
+use borrow.Author.Tests.{leb-true, eqb-true}
+use Rattle.rules.specs.Lists.{every}
+use Rattle.rules.specs.Table.{Program, soundTable}
+use Rattle.rules.specs.State.{Memory, soundCell, soundCells, stateTests, sound}
+use Rattle.rules.specs.declared.Registers.{Registers}
+use Rattle.rules.proofs.Tests.{every-at, drop-next}
+use Rattle.state.proofs.Chain.{and-then}
+use Rattle.state.specs.Parts.{keptSizes, registersWithin, Held}
+
+-- ---- the loop over the cells: one cell more, and no cell left
+
+pub cells-next : (count : ℕ) (ts bs : List ℕ) (i : ℕ) (b : Bool) → i < length ts → i < length bs → soundCell count (getD ts i 0) (getD bs i 0) ≡ b
+    → soundCells count (drop i ts) (drop i bs) ≡ (b && soundCells count (drop (i + 1) ts) (drop (i + 1) bs))
+cells-next count ts bs i b ht hb e =
+    ap₂ (soundCells count) (drop-next ts i ht) (drop-next bs i hb)
+    ∙ ap (λ (t : Bool). t && soundCells count (drop (i + 1) ts) (drop (i + 1) bs)) e
+
+pub cells-done : (count : ℕ) (ts bs : List ℕ) (i : ℕ) → length ts ≤ i → soundCells count (drop i ts) (drop i bs) ≡ true
+cells-done count ts bs i h = ap (λ (l : List ℕ). soundCells count l (drop i bs)) (drop-of-length-le ts h)
+
+-- ---- the parts of a state's tests
+
+module _ (p : Program) (r : Registers) (m : Memory) where
+  pub sound-parts : sound p r m
+      ≡ (soundTable p
+      && (every (keptSizes r (length (m .bits)) (length (m .tags)) (length (m .history)))
+      && (every (registersWithin (p .count) r) && soundCells (p .count) (m .tags) (m .bits))))
+  unfolding sound
+  sound-parts = simp (and-true, and-assoc)
+
+  -- what a sound state gives
+  pub held : sound p r m ≡ true → Held r m
+  unfolding sound
+  held h =
+      record {
+        cells = eqb-true _ _ (every-at (stateTests p r m) 4 h);
+        tagged = eqb-true _ _ (every-at (stateTests p r m) 5 h);
+        places = eqb-true _ _ (every-at (stateTests p r m) 6 h);
+        few = leb-true _ _ (every-at (stateTests p r m) 2 h);
+        short = leb-true _ _ (every-at (stateTests p r m) 3 h);
+        used = leb-true _ _ (every-at (stateTests p r m) 11 h);
+      }
+
+  -- the early returns of the judgement, and its end
+  module _ (made : soundTable p ≡ true) where
+    pub sound-sizes : every (keptSizes r (length (m .bits)) (length (m .tags)) (length (m .history))) ≡ false → sound p r m ≡ false
+    sound-sizes h = sound-parts ∙ and-then made (rw h refl)
+
+    module _ (sized : every (keptSizes r (length (m .bits)) (length (m .tags)) (length (m .history))) ≡ true) where
+      pub sound-registers : every (registersWithin (p .count) r) ≡ false → sound p r m ≡ false
+      sound-registers h = sound-parts ∙ and-then made (and-then sized (rw h refl))
+
+      pub sound-cells : every (registersWithin (p .count) r) ≡ true → sound p r m ≡ soundCells (p .count) (m .tags) (m .bits)
+      sound-cells h = sound-parts ∙ and-then made (and-then sized (and-then h refl))
+
+      pub cells-equal : length (m .tags) ≡ length (m .bits)
+      cells-equal =
+          eqb-true _ _ (every-at (keptSizes r (length (m .bits)) (length (m .tags)) (length (m .history))) 4 sized)
+          ∙ sym (eqb-true _ _ (every-at (keptSizes r (length (m .bits)) (length (m .tags)) (length (m .history))) 3 sized))
+
+  pub sound-table : soundTable p ≡ false → sound p r m ≡ false
+  sound-table h = sound-parts ∙ rw h refl

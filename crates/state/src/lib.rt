@@ -1,0 +1,200 @@
+// The state between steps: whether a table, registers and lent slices are sound (document 01's 10), and the reset.
+use rules::Begun;
+use rules::MachineRefusal;
+use rules::Registers;
+use rules::Reset;
+ghost use mathlib.Core.Path.{_≡_};
+ghost use lib.ListN.{length, replicate};
+ghost use Rattle.rules.specs.Lists.{every};
+ghost use Rattle.rules.specs.Table.{program};
+ghost use Rattle.rules.specs.State.{memory, soundCell, soundCells, sound};
+ghost use Rattle.rules.specs.Reset.{cleared, reset};
+ghost use Rattle.state.specs.Parts.{keptSizes, registersWithin, startSizes};
+ghost use Rattle.state.specs.Outcomes.{started};
+
+// Whether N and H are within "Sizes", and the lent slices, of these lengths, are of them.
+fn has_kept_sizes(r: Registers, bits: usize, tags: usize, history: usize) -> bool
+    ensures { λ a. ⌜ a ≡ every (keptSizes r bits tags history) ⌝ }
+{
+    if r.n < 1 {
+        return false;
+    }
+    if 1000 < r.n {
+        return false;
+    }
+    if 8192 < r.h {
+        return false;
+    }
+    if bits != r.n {
+        return false;
+    }
+    if tags != r.n {
+        return false;
+    }
+    history == r.h
+}
+
+// Whether SP, FBR, PC, HALT and U are within their ranges, in a program of `count` instructions.
+fn has_registers_within(r: Registers, count: usize) -> bool
+    ensures { λ a. ⌜ a ≡ every (registersWithin count r) ⌝ }
+{
+    if r.n <= r.sp {
+        return false;
+    }
+    if r.n <= r.fbr {
+        return false;
+    }
+    if count < r.pc {
+        return false;
+    }
+    if 1 < r.halt {
+        return false;
+    }
+    r.used <= r.h
+}
+
+// Whether a cell may stand in a sound state: its tag is at most 3, and a PA is at most the program's length.
+fn is_sound_cell(count: usize, tag: u8, bits: u32) -> bool
+    ensures { λ a. ⌜ a ≡ soundCell count tag bits ⌝ }
+{
+    let address = bits as usize;
+    if 3 < tag {
+        return false;
+    }
+    if tag != 3 {
+        return true;
+    }
+    address <= count
+}
+
+// Whether every cell may.
+fn are_sound_cells(count: usize, tags: &[u8], bits: &[u32]) -> bool
+    requires { ⌜ length (now tags) ≡ length (now bits) ⌝ }
+    ensures { λ a. ⌜ a ≡ soundCells count (now (tags .entry)) (now (bits .entry)) ⌝ }
+{
+    let mut i = 0;
+    while i < tags.len() {
+        let ok = is_sound_cell(count, tags[i], bits[i]);
+        if !ok {
+            return false;
+        }
+        i += 1;
+    }
+    true
+}
+
+// Whether a table, registers and lent slices are what a step, a step-back and a run take: where not, they answer 10.
+pub fn is_sound(
+    table: &[u64],
+    length: usize,
+    r: Registers,
+    bits: &[u32],
+    tags: &[u8],
+    history: &[u64],
+) -> bool
+    ensures { λ a. ⌜ a ≡ sound (program (now (table .entry)) length) r (memory (now (bits .entry)) (now (tags .entry)) (now (history .entry))) ⌝ }
+{
+    let made = program::table::is_sound(table, length);
+    if !made {
+        return false;
+    }
+    let sized = has_kept_sizes(r, bits.len(), tags.len(), history.len());
+    if !sized {
+        return false;
+    }
+    let within = has_registers_within(r, length);
+    if !within {
+        return false;
+    }
+    are_sound_cells(length, tags, bits)
+}
+
+// Whether a reset takes cells, tags and history of these lengths: where not, it answers 11.
+fn has_start_sizes(bits: usize, tags: usize, history: usize) -> bool
+    ensures { λ a. ⌜ a ≡ every (startSizes bits tags history) ⌝ }
+{
+    if bits < 1 {
+        return false;
+    }
+    if 1000 < bits {
+        return false;
+    }
+    if 8192 < history {
+        return false;
+    }
+    tags == bits
+}
+
+// Sets every place to 0.
+pub fn clear(places: &mut [u64])
+    ensures { λ _. ⌜ now (places .exit) ≡ replicate (length (now (places .entry))) 0 ⌝ }
+{
+    let mut place = 0;
+    while place < places.len() {
+        places[place] = 0;
+        place += 1;
+    }
+}
+
+// Sets every cell to INT 0.
+fn clear_cells(bits: &mut [u32], tags: &mut [u8])
+    requires { ⌜ length (now tags) ≡ length (now bits) ⌝ }
+    ensures { λ _. ⌜ now (bits .exit) ≡ replicate (length (now (bits .entry))) 0 ⌝ }
+    ensures { λ _. ⌜ now (tags .exit) ≡ replicate (length (now (tags .entry))) 0 ⌝ }
+{
+    let mut cell = 0;
+    while cell < bits.len() {
+        bits[cell] = 0;
+        tags[cell] = 0;
+        cell += 1;
+    }
+}
+
+// Registers with N and H, and all else 0.
+fn zero_registers(n: usize, h: usize) -> Registers
+    ensures { λ r. ⌜ r ≡ cleared n h ⌝ }
+{
+    Registers {
+        n,
+        h,
+        pc: 0,
+        sp: 0,
+        fbr: 0,
+        halt: 0,
+        used: 0,
+    }
+}
+
+// Sets cells to INT 0 and all history places to 0, and answers the registers to start with; or refuses and changes nothing.
+pub fn reset(
+    table: &[u64],
+    length: usize,
+    bits: &mut [u32],
+    tags: &mut [u8],
+    history: &mut [u64],
+) -> Reset
+    ensures { λ a. ⌜ started a (now (bits .exit)) (now (tags .exit)) (now (history .exit)) ≡ reset (program (now (table .entry)) length) (memory (now (bits .entry)) (now (tags .entry)) (now (history .entry))) ⌝ }
+{
+    let n = bits.len();
+    let h = history.len();
+    let sized = has_start_sizes(n, tags.len(), h);
+    if !sized {
+        return Reset {
+            begun: Begun::NotReady(MachineRefusal::OutsideSizes),
+            registers: zero_registers(0, 0),
+        };
+    }
+    let made = program::table::is_sound(table, length);
+    if !made {
+        return Reset {
+            begun: Begun::NotReady(MachineRefusal::Broken),
+            registers: zero_registers(0, 0),
+        };
+    }
+    clear_cells(bits, tags);
+    clear(history);
+    Reset {
+        begun: Begun::Ready,
+        registers: zero_registers(n, h),
+    }
+}

@@ -1,0 +1,106 @@
+/* The SaM machine for C: every call of the proved library, with numbers and lent memory only.
+ *
+ * Link target/staticlib/libsam_c.a. Every call gives a number of document 01:
+ *
+ *    0  done, or a run found HALT 1
+ *    1  step with HALT 1
+ *    2  PC equals program length
+ *    3  fewer values than needed, or ADDSP below 0
+ *    4  a value has a tag the instruction does not take
+ *    5  DIV or MOD by zero, or CMPF with a NaN
+ *    6  address outside the instruction's range
+ *    7  new SP would be N or more
+ *    8  H above 0 and fewer than (cells written + 1) places free
+ *    9  step-back with U = 0
+ *   10  broken state or table
+ *   11  at reset N or H outside the sizes below, or cells and tags of unequal count; at a run a limit above 1,000,000
+ *   21  source too long                       26  label twice
+ *   22  forbidden byte                        27  label unknown
+ *   23  no instruction or label here          28  too many instructions
+ *   24  operand missing or of wrong form      29  too many labels
+ *   25  operand out of range                  30  label too long
+ *   31  lent output not of its exact length
+ *   41  image ends early                      44  operand out of range
+ *   42  count above 1,024                     45  padding not zero or bytes left over
+ *   43  code above 49
+ *   50  run limit reached
+ *
+ * A count of elements stands after each pointer. A pointer is never null and is aligned for its type, also where the
+ * count is 0; memory lent to be written overlaps no other memory of the call.
+ *
+ * `told` is lent for what a call tells besides its number. A `told` of another length than the call's is 31 before
+ * anything else and changes nothing. Where a call is refused, the values told are zero, save the place that assemble
+ * tells and the steps that a run made before a step was refused.
+ */
+#ifndef SAM_H
+#define SAM_H
+
+#include <stddef.h>
+#include <stdint.h>
+
+#ifdef __cplusplus
+extern "C" {
+#endif
+
+enum {
+    SAM_SOURCE_LIMIT = 65536,  /* bytes of a source */
+    SAM_TABLE_PLACES = 1024,   /* places of a table: its exact length */
+    SAM_TEXT_BYTES = 20480,    /* bytes of a listing: its exact length */
+    SAM_IMAGE_BYTES = 4866,    /* bytes of a packed image: its exact length */
+    SAM_CELL_LIMIT = 1000,     /* N is 1 to this */
+    SAM_HISTORY_LIMIT = 8192,  /* H is 0 to this; H = 0 keeps no history */
+    SAM_RUN_LIMIT = 1000000    /* steps of one run */
+};
+
+/* The registers are a lent slice of seven. Registers of another length are 10 and change nothing. */
+enum { SAM_N, SAM_H_PLACES, SAM_PC, SAM_SP, SAM_FBR, SAM_HALT, SAM_U, SAM_REGISTERS };
+
+/* The tag of a cell. */
+enum { SAM_INT, SAM_FLOAT, SAM_MA, SAM_PA };
+
+/* Assembles a source into a table of 1,024 places. told[2]: the program's length, and the place of a refusal in the
+ * source (0 where it is done). A refused source leaves a table of 1,024 places zero. */
+uint32_t sam_assemble(const uint8_t *source, size_t source_len, uint64_t *table, size_t places, uint64_t *told,
+                      size_t told_len);
+
+/* Lists a program as text of 20,480 bytes, one line for each instruction, the rest zero. told[1]: the text's length,
+ * and only that much is assembled again. 31 comes before 10. */
+uint32_t sam_list(const uint64_t *table, size_t places, uint64_t length, uint8_t *text, size_t text_len, uint64_t *told,
+                  size_t told_len);
+
+/* Packs a program into an image of 4,866 bytes, the rest zero. told[1]: the image's length, and only that much is
+ * unpacked again. 31 comes before 10. */
+uint32_t sam_pack(const uint64_t *table, size_t places, uint64_t length, uint8_t *image, size_t image_len,
+                  uint64_t *told, size_t told_len);
+
+/* Unpacks an image into a table of 1,024 places. told[1]: the program's length. A refused image leaves a table of
+ * 1,024 places zero. */
+uint32_t sam_unpack(const uint8_t *image, size_t image_len, uint64_t *table, size_t places, uint64_t *told,
+                    size_t told_len);
+
+/* Sets every cell to INT 0, every history place to 0, N and H to the lent counts and the other registers to 0.
+ * 11 comes before 10. A refused reset leaves the cells and the history as they were and sets the seven registers to
+ * zero. */
+uint32_t sam_reset(const uint64_t *table, size_t places, uint64_t length, uint64_t *registers, size_t registers_len,
+                   uint32_t *bits, size_t n, uint8_t *tags, size_t tags_len, uint64_t *history, size_t h);
+
+/* Makes one step: 10, then 1 to 8 in order; a refused step changes nothing. */
+uint32_t sam_step(const uint64_t *table, size_t places, uint64_t length, uint64_t *registers, size_t registers_len,
+                  uint32_t *bits, size_t n, uint8_t *tags, size_t tags_len, uint64_t *history, size_t h);
+
+/* Takes the last step back: 10, then 9; a refused step-back changes nothing. */
+uint32_t sam_step_back(const uint64_t *table, size_t places, uint64_t length, uint64_t *registers,
+                       size_t registers_len, uint32_t *bits, size_t n, uint8_t *tags, size_t tags_len,
+                       uint64_t *history, size_t h);
+
+/* Makes steps until HALT is 1 (0), the limit is made (50) or a step is refused (its number); 11, then 10 at its entry.
+ * told[1]: the number of steps made, which stand. */
+uint32_t sam_run(const uint64_t *table, size_t places, uint64_t length, uint64_t limit, uint64_t *registers,
+                 size_t registers_len, uint32_t *bits, size_t n, uint8_t *tags, size_t tags_len, uint64_t *history,
+                 size_t h, uint64_t *told, size_t told_len);
+
+#ifdef __cplusplus
+}
+#endif
+
+#endif
