@@ -1,5 +1,4 @@
--- Laws of `tokens` at an offset of a source: what stands there decides where the tokens go on.
--- Assumes nothing.
+-- Laws of the tokens from a place of a source on: what stands there decides where they go on. Assumes nothing.
 use mathlib.Core.Path.{_≡_, refl, ap, sym, _∙_}
 use mathlib.Core.Bool.{Bool, true, false, _||_, true≢false}
 use lib.Dec.{ltb, eqb}
@@ -9,37 +8,10 @@ use Prim.Native.Nat.{ℕ, suc, _+_, _-_, _≤_, _<_}
 use native.Mathlib.Omega.{arith}
 use lib.ListN.{length, drop, getD, drop-of-length-le}
 use Rattle.rules.proofs.Tests.{drop-next}
+use Rattle.rules.proofs.Tokens.{tokens-blank, tokens-comment, tokens-last, tokens-more}
 use Rattle.rules.specs.Bytes.{blank}
 use Rattle.rules.specs.Tokens.{opens, stops, last, extend, tokens, comment}
 use Rattle.tokens.specs.Next.{from, inside, between, Ended}
-
-or-true : (a : Bool) → (a || true) ≡ true
-or-true true = refl
-or-true false = refl
-
-or-left : (a b : Bool) → (a || b) ≡ false → a ≡ false
-or-left false b h = refl
-or-left true b h = h
-
-or-right : (a b : Bool) → (a || b) ≡ false → b ≡ false
-or-right false b h = h
-or-right true b h = absurd (true≢false h)
-
-pub tokens-blank : (at b : ℕ) (s : List ℕ) → blank b ≡ true → tokens at (b ∷ s) ≡ tokens (at + 1) s
-unfolding tokens
-tokens-blank at b s h = rw h
-
-pub tokens-comment : (at b : ℕ) (s : List ℕ) → blank b ≡ false → opens (b ∷ s) ≡ true → tokens at (b ∷ s) ≡ comment (at + 1) s
-unfolding tokens
-tokens-comment at b s h k = rw (h, k)
-
-pub tokens-last : (at b : ℕ) (s : List ℕ) → stops (b ∷ s) ≡ false → last b s ≡ true → tokens at (b ∷ s) ≡ record { at = at; text = b ∷ [] } ∷ tokens (at + 1) s
-unfolding tokens stops
-tokens-last at b s h k = rw (or-left (blank b) (opens (b ∷ s)) h, or-right (blank b) (opens (b ∷ s)) h, k)
-
-pub tokens-more : (at b : ℕ) (s : List ℕ) → stops (b ∷ s) ≡ false → last b s ≡ false → tokens at (b ∷ s) ≡ extend at b (tokens (at + 1) s)
-unfolding tokens stops
-tokens-more at b s h k = rw (or-left (blank b) (opens (b ∷ s)) h, or-right (blank b) (opens (b ∷ s)) h, k)
 
 module _ (src : List ℕ) (i : ℕ) where
   pub from-end : length src ≤ i → from src i ≡ []
