@@ -1,0 +1,2 @@
+-- What the inner contracts of `machine` cite.
+pub mod Fits

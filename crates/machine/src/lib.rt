@@ -1,0 +1,2 @@
+// The machine: one step, and a run of steps. A step first decides what it does or why it is refused, then carries that out.
+mod commit;
