@@ -14,6 +14,7 @@ use Rattle.rules.specs.Places.{cellPlace}
 use Rattle.rules.specs.Commit.{block, cellPlaces, usedAfter, historyAfter, roomIn, roomFor}
 use Rattle.rules.specs.declared.Registers.{Registers}
 use Rattle.rules.specs.declared.Effect.{Effect}
+use Rattle.rules.proofs.Sound.{length-places}
 use Rattle.rules.proofs.Splice.{length-part, splice-beside, splice-none, sets-splice}
 
 -- ---- the written cells: none, one, or more
@@ -50,11 +51,6 @@ module _ (l : List ℕ) (at n x y : ℕ) (h : at + n ≤ length l) where
 
 -- ---- the cell places
 
-pub length-cells : (a : ℕ) (ts bs : List ℕ) → length ts ≡ length bs → length (cellPlaces a ts bs) ≡ length bs
-length-cells a [] bs e = e
-length-cells a (t ∷ ts) [] e = refl
-length-cells a (t ∷ ts) (b ∷ bs) e = ap suc (length-cells (suc a) ts bs (omega arith))
-
 getD-cells : (a : ℕ) (ts bs : List ℕ) (i : ℕ) → i < length ts → i < length bs → getD (cellPlaces a ts bs) i 0 ≡ cellPlace (a + i) (getD ts i 0) (getD bs i 0)
 getD-cells a [] bs i h k = absurd (not-suc-le-zero h)
 getD-cells a (t ∷ ts) [] i h k = absurd (not-suc-le-zero k)
@@ -65,7 +61,7 @@ getD-cells a (t ∷ ts) (b ∷ bs) (suc i) h k =
 -- those of a block, n cells from `at` on
 module _ (at n : ℕ) (tags bits : List ℕ) (ht : at + n ≤ length tags) (hb : at + n ≤ length bits) where
   pub kept-length : length (cellPlaces at (part at n tags) (part at n bits)) ≡ n
-  kept-length = length-cells at (part at n tags) (part at n bits) (length-part at n tags ht ∙ sym (length-part at n bits hb)) ∙ length-part at n bits hb
+  kept-length = length-places at (part at n tags) (part at n bits) (length-part at n tags ht ∙ sym (length-part at n bits hb)) ∙ length-part at n bits hb
 
   pub kept-at : (i : ℕ) → i < n → getD (cellPlaces at (part at n tags) (part at n bits)) i 0 ≡ cellPlace (at + i) (getD tags (at + i) 0) (getD bits (at + i) 0)
   kept-at i h =

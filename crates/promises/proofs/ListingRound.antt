@@ -1,20 +1,19 @@
 -- A listing, judged line by line: each line of a sound place becomes an item that settles to that place. Assumes nothing.
-use Prim.Native.Nat.{ℕ, zero, suc, _+_, _*_, _-_, _/_, _%_, _^_, _≤_, _<_}
+use Prim.Native.Nat.{ℕ, _+_, _-_, _≤_, _<_}
 use mathlib.Core.Path.{_≡_, refl, ap, sym, _∙_}
-use mathlib.Core.Bool.{Bool, true, false, _&&_}
+use mathlib.Core.Bool.{true}
 use mathlib.Core.List.{List, [], _∷_, _++_, append-assoc, append-nil}
 use native.Mathlib.Omega.{arith}
-use lib.Dec.{leb, eqb}
+use lib.Dec.{eqb}
 use lib.ListN.{length, getD, length-append}
 use borrow.Author.Tests.{leb-true, eqb-true}
 use Rattle.rules.specs.Lists.{all}
 use Rattle.rules.specs.Sizes.{maxProgram}
 use Rattle.rules.specs.Bytes.{LF, space, hash, isWord}
-use Rattle.rules.specs.Tokens.{Token, tokens}
-use Rattle.rules.specs.Operands.{numberOf, patternOf}
+use Rattle.rules.specs.Tokens.{tokens}
 use Rattle.rules.specs.Instructions.{codes, nameOf, kindOf}
 use Rattle.rules.specs.Table.{placeOf, codeOf, operandOf, within, soundPlace}
-use Rattle.rules.specs.Assemble.{Label, Item, finished, numbered, Awaited, instruction, operandFor, Progress, Reading, item, plainNumber, targetNumber, targetOf, operandOfKind, Judged, go, withItem, awaiting, begunAs, newName, newOperand, judgeAs, judgeToken, Outcome, done, join, settle, finishAs, judge, nothing, translated}
+use Rattle.rules.specs.Assemble.{Item, finished, numbered, instruction, Progress, item, plainNumber, targetNumber, targetOf, operandOfKind, go, withItem, awaiting, begunAs, newOperand, judgeAs, judgeToken, done, settle, finishAs, judge, nothing, translated}
 use Rattle.rules.specs.Listing.{decimal, signedText, hex, operandText, spaced, lineOf, listing}
 use Rattle.rules.specs.declared.Kind.{Kind}
 use Rattle.rules.specs.declared.Kind.the-variants.{Bare, Immediate, Pattern, Offset, Target}

@@ -1,24 +1,30 @@
--- The lines of a listing: at most twenty bytes each, and of operands that are each one token. Assumes nothing.
+-- The lines of a listing: of operands that are each one token, and at most twenty bytes each; and the three answers of the lister. Assumes nothing.
 use Prim.Native.Nat.{ℕ, zero, suc, _+_, _*_, _-_, _/_, _%_, _^_, _≤_, _<_}
 use mathlib.Core.Path.{_≡_, refl, ap, sym, _∙_}
-use mathlib.Core.Bool.{Bool, true, false, _&&_, _||_}
+use mathlib.Core.Bool.{Bool, true, false, _||_}
 use mathlib.Core.List.{List, [], _∷_, _++_, append-assoc, append-nil}
 use native.Mathlib.Omega.{arith}
+use native.Mathlib.Numerals.{add-one}
 use lib.Dec.{leb, ltb}
-use lib.ListN.{length, length-append}
-use borrow.Author.Tests.{leb-true, ltb-true}
+use lib.ListN.{length, take, getD, replicate, length-append}
+use lib.Seq.{take-suc}
+use borrow.Author.Tests.{leb-true, ltb-true, eq-eqb, ne-eqb}
 use Rattle.rules.specs.Lists.{text, all}
-use Rattle.rules.specs.Sizes.{maxProgram}
-use Rattle.rules.specs.Bytes.{hash, space, minusSign, LF, zeroDigit, blank, letter, wordByte, allowed}
+use Rattle.rules.specs.Sizes.{maxProgram, listingSize}
+use Rattle.rules.specs.Bytes.{hash, space, minusSign, LF, blank, letter, wordByte, allowed}
 use Rattle.rules.specs.Instructions.{rows, rowOf, codes, names, nameOf, kindOf}
-use Rattle.rules.specs.Table.{codeOf, operandOf, within, soundPlace}
+use Rattle.rules.specs.Table.{Program, codeOf, operandOf, within, soundPlace, soundTable}
 use Rattle.rules.specs.Assemble.{allowedRun}
-use Rattle.rules.specs.Listing.{decimal, signedText, hexByte, hex, operandText, spaced, lineOf, listing}
+use Rattle.rules.specs.Listing.{decimal, signedText, hexByte, hex, operandText, spaced, lineOf, listing, told, list}
 use Rattle.rules.specs.declared.Kind.{Kind}
 use Rattle.rules.specs.declared.Kind.the-variants.{Bare, Immediate, Pattern, Offset, Target}
+use Rattle.rules.specs.declared.Listed.the-variants.{Failed}
+use Rattle.rules.specs.declared.TextRefusal.the-variants.{BrokenTable, WrongLength}
+use Rattle.rules.proofs.Effects.{table-short, place-sound}
+use Rattle.rules.proofs.Table.{used-sound, used-count}
 use Rattle.rules.proofs.Tests.{by-test, and-left, and-right, below, at-below}
 use Rattle.rules.proofs.Tokens.{plain, allPlain}
-use Rattle.rules.proofs.Texts.{lastDigit, decimal-all, decimal-some, length-digits, length-decimal, length-signed, length-hex, signed-pos, signed-neg, hex-plain, hex-allowed, hex-low}
+use Rattle.rules.proofs.Texts.{lastDigit, decimal-all, decimal-some, length-digits, length-signed, length-hex, signed-pos, signed-neg, hex-plain, hex-allowed, hex-low}
 use Rattle.rules.proofs.Names.{Wordlike}
 
 -- ---- operands are each one token of allowed bytes
@@ -147,13 +153,54 @@ length-listing n (p ∷ ps) h f =
     let l = length-line n p h (and-left (soundPlace n p) (all (soundPlace n) ps) f) in
     rw length-append (omega (arith, length-listing n ps h (and-right (soundPlace n p) (all (soundPlace n) ps) f)))
 
--- ---- one line more
+-- ---- the parts of a line, and one line more
 
-pub listing-append : (ps qs : List ℕ) → listing (ps ++ qs) ≡ listing ps ++ listing qs
+pub line-parts : (p : ℕ) → lineOf p ≡ (nameOf (codeOf p) ++ spaced (operandText (kindOf (codeOf p)) (operandOf p))) ++ LF ∷ []
+unfolding lineOf
+line-parts p = sym (append-assoc (nameOf (codeOf p)) (spaced (operandText (kindOf (codeOf p)) (operandOf p))) (LF ∷ []))
+
+pub line-length : (p : ℕ) → length (lineOf p) ≡ length (nameOf (codeOf p)) + length (spaced (operandText (kindOf (codeOf p)) (operandOf p))) + 1
+line-length p = rw (line-parts p, length-append, length-append)
+
+listing-append : (ps qs : List ℕ) → listing (ps ++ qs) ≡ listing ps ++ listing qs
 unfolding listing
 listing-append [] qs = refl
 listing-append (p ∷ ps) qs = rw (listing-append ps qs) (sym (append-assoc (lineOf p) (listing ps) (listing qs)))
 
-pub listing-one : (p : ℕ) → listing (p ∷ []) ≡ lineOf p
+pub listing-none : listing [] ≡ []
+unfolding listing
+listing-none = refl
+
+listing-one : (p : ℕ) → listing (p ∷ []) ≡ lineOf p
 unfolding listing
 listing-one p = append-nil (lineOf p)
+
+pub listing-next : (l : List ℕ) (i : ℕ) → i < length l → listing (take (i + 1) l) ≡ listing (take i l) ++ lineOf (getD l i 0)
+listing-next l i h =
+    rw (add-one i, take-suc l i 0 h) (listing-append (take i l) (getD l i 0 ∷ []) ∙ rw (listing-one (getD l i 0)))
+
+-- ---- the listing of a sound program
+
+module _ (p : Program) (s : soundTable p ≡ true) where
+  pub line-short : (i : ℕ) → i < p .count → length (lineOf (getD (p .places) i 0)) ≤ 20
+  line-short i h = length-line (p .count) (getD (p .places) i 0) (table-short p s) (place-sound p s i h)
+
+  -- 1,024 lines of twenty bytes
+  pub listing-fits : length (listing (take (p .count) (p .places))) ≤ listingSize
+  listing-fits =
+      omega (arith, length-listing (p .count) (take (p .count) (p .places)) (table-short p s) (used-sound p s), used-count p s, table-short p s)
+
+-- ---- the three answers
+
+module _ (p : Program) (out : List ℕ) where
+  pub list-refused : (length out ≡ listingSize → ⊥) → list p out ≡ record { answer = Failed WrongLength; bytes = out }
+  unfolding list
+  list-refused h = rw (ne-eqb (length out) listingSize h)
+
+  pub list-broken : length out ≡ listingSize → soundTable p ≡ false → list p out ≡ record { answer = Failed BrokenTable; bytes = replicate listingSize 0 }
+  unfolding list
+  list-broken h s = rw (eq-eqb (length out) listingSize h, s)
+
+  pub list-told : length out ≡ listingSize → soundTable p ≡ true → list p out ≡ told (listing (take (p .count) (p .places)))
+  unfolding list
+  list-told h s = rw (eq-eqb (length out) listingSize h, s)

@@ -1,15 +1,14 @@
 -- Number operands: what digits after digits make, and which texts are read as numbers and as bits. Assumes nothing.
-use Prim.Native.Nat.{ℕ, suc, _+_, _*_, _-_, _^_, _≤_, _<_}
-use mathlib.Core.Path.{_≡_, refl, ap, sym, _∙_}
-use mathlib.Core.Bool.{Bool, true, false, _&&_, and-assoc}
+use Prim.Native.Nat.{ℕ, _+_, _*_, _-_, _≤_, _<_}
+use mathlib.Core.Path.{_≡_, refl, sym}
+use mathlib.Core.Bool.{true, false, _&&_, and-assoc}
 use mathlib.Core.List.{List, [], _∷_, _++_}
 use native.Mathlib.Omega.{arith}
-use lib.Dec.{eqb, leb, ltb}
-use lib.ListN.{length, drop, getD, length-drop}
+use lib.Dec.{eqb, ltb}
+use lib.ListN.{length, drop, getD}
 use borrow.Author.Tests.{ne-eqb, le-leb, eq-eqb}
 use Rattle.rules.specs.Bytes.{hash, minusSign}
 use Rattle.rules.specs.Operands.{digitOf, allDigits, numeral, isNumeral, signs, negated, ranged, numberOf, patternOf}
-use Rattle.rules.specs.declared.Numeral.{Numeral}
 use Rattle.rules.specs.declared.Numeral.the-variants.{Value}
 
 pub digit-09 : (b : ℕ) → 48 ≤ b → b ≤ 57 → digitOf b ≡ b - 48

@@ -1,8 +1,7 @@
 -- Where the quotient of two signed 32-bit integers fits: everywhere but at -2 ^ 31 by -1. Assumes nothing.
-use mathlib.Core.Path.{_≡_, refl, sym, ap, ap₂, _∙_, subst, subst₂}
-use mathlib.Core.Logic.{_⊎_, inl, inr, _≢_}
-use Prim.Native.Nat.{ℕ, zero, suc, _+_, _-_, _/_, _%_, _^_, _≤_, _<_, zero-le, suc-le-suc}
-use native.Mathlib.Nat.{le-of-suc-le-suc, lt-of-le-of-lt, le-trans, le-of-lt, div-le-self, div-lt-self, zero-lt-suc, div-one, div-zero, mod-zero}
+use mathlib.Core.Path.{_≡_, refl, sym, ap, ap₂, _∙_, subst}
+use Prim.Native.Nat.{ℕ, zero, suc, _/_, _^_, _≤_, _<_, zero-le, suc-le-suc}
+use native.Mathlib.Nat.{le-of-suc-le-suc, lt-of-le-of-lt, div-le-self, div-lt-self, zero-lt-suc, div-one, div-zero, mod-zero}
 use native.Mathlib.Omega.{arith}
 use lib.Arith.{lt-of-le-ne}
 use lib.IntN.{ℤ, pos, negsuc, negℤ}

@@ -8,8 +8,7 @@ use native.Mathlib.Omega.{arith}
 use lib.IntN.{ℤ, pos, negsuc, negℤ, natAbs, _+ℤ_, _-ℤ_, _*ℤ_, negℤ-+ℤ}
 use lib.Signed.{mag, nonNeg, quotZ, remZ, mag-rem}
 use mir.Syntax.{w32}
-use mir.Val.{Fits}
-use mir.Facts.{toZ-inj, sfits-toZ, fits-lit}
+use mir.Facts.{toZ-inj, sfits-toZ}
 use Rattle.rules.specs.Words.{signed, word, plus, minus, times, quotient, remainder}
 use Rattle.word.proofs.Signed.{word-signed, signed-word}
 use Rattle.word.proofs.Divide.{quot-fits}

@@ -1,12 +1,12 @@
 -- The signed reading of 32 bits, and back: what the casts between `u32` and `i32` rest on. Assumes nothing.
 use mathlib.Core.Path.{_≡_, refl, sym, ap, _∙_, subst}
 use mathlib.Core.Bool.{Bool, true, false, not}
-use Prim.Native.Nat.{ℕ, zero, suc, _+_, _-_, _%_, _^_, _≤_, _<_}
+use Prim.Native.Nat.{ℕ, zero, suc, _-_, _^_, _≤_, _<_}
 use native.Mathlib.Nat.{zero-lt-suc, not-suc-le-zero}
 use native.Mathlib.Omega.{arith}
 use lib.Dec.{T, ltb, ltb→lt, nltb→le}
-use borrow.Author.Tests.{lt-ltb, le-ltb, leb-false}
-use lib.IntN.{ℤ, pos, negsuc, natAbs, subℕ, _-ℤ_}
+use borrow.Author.Tests.{le-ltb, leb-false}
+use lib.IntN.{ℤ, pos, negsuc, natAbs, _-ℤ_}
 use lib.Signed.{mag, leZ, nonNeg}
 use mir.Syntax.{w32}
 use mir.Val.{Fits, SFits, toZ, ofZ, sel}
@@ -14,11 +14,11 @@ use mir.Facts.{toZ-ofZ, toZ-pos}
 use Rattle.rules.specs.Words.{signed, word}
 
 -- -1 - k
-pub minus-one-less : (k : ℕ) → negsuc 0 -ℤ pos k ≡ negsuc k
+minus-one-less : (k : ℕ) → negsuc 0 -ℤ pos k ≡ negsuc k
 minus-one-less zero = refl
 minus-one-less (suc k) = ap (λ (x : ℕ). negsuc (suc x)) (omega arith)
 
-pub minus-one-plus : (k : ℕ) → negsuc 0 -ℤ negsuc k ≡ pos k
+minus-one-plus : (k : ℕ) → negsuc 0 -ℤ negsuc k ≡ pos k
 minus-one-plus k = rw (le-ltb (suc k) 1 (zero-lt-suc k)) (ap pos (omega arith))
 
 -- a word is the word of the number that it stands for

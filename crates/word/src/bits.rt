@@ -3,14 +3,14 @@ ghost use mathlib.Core.Path.{_≡_};
 ghost use lib.Bits.{bitAnd, bitOr, bitXor};
 ghost use Rattle.rules.specs.Words.{bitNot, bitNand, bitNor};
 
-// BITAND
+// BITAND: the bits that both have.
 pub fn bit_and(b: u32, t: u32) -> u32
     ensures { λ r. ⌜ r ≡ bitAnd b t ⌝ }
 {
     b & t
 }
 
-// BITOR
+// BITOR: the bits that one of them has.
 pub fn bit_or(b: u32, t: u32) -> u32
     ensures { λ r. ⌜ r ≡ bitOr b t ⌝ }
 {
@@ -31,7 +31,7 @@ pub fn bit_nor(b: u32, t: u32) -> u32
     !(b | t)
 }
 
-// BITXOR
+// BITXOR: the bits that just one has.
 pub fn bit_xor(b: u32, t: u32) -> u32
     ensures { λ r. ⌜ r ≡ bitXor b t ⌝ }
 {

@@ -30,7 +30,7 @@ pub(crate) fn bits_of(x: f32) -> u32
     if x != x { 2143289344 } else { f32::to_bits(x) }
 }
 
-// ADDF
+// ADDF: the sum, rounded once.
 pub fn plus_f(b: u32, t: u32) -> u32
     ensures { λ r. ⌜ r ≡ plusF b t ⌝ }
 {
@@ -39,7 +39,7 @@ pub fn plus_f(b: u32, t: u32) -> u32
     bits_of(x + y)
 }
 
-// SUBF
+// SUBF: the difference, rounded once.
 pub fn minus_f(b: u32, t: u32) -> u32
     ensures { λ r. ⌜ r ≡ minusF b t ⌝ }
 {
@@ -48,7 +48,7 @@ pub fn minus_f(b: u32, t: u32) -> u32
     bits_of(x - y)
 }
 
-// TIMESF
+// TIMESF: the product, rounded once.
 pub fn times_f(b: u32, t: u32) -> u32
     ensures { λ r. ⌜ r ≡ timesF b t ⌝ }
 {
@@ -57,7 +57,7 @@ pub fn times_f(b: u32, t: u32) -> u32
     bits_of(x * y)
 }
 
-// DIVF
+// DIVF: the quotient, rounded once.
 pub fn quotient_f(b: u32, t: u32) -> u32
     ensures { λ r. ⌜ r ≡ quotientF b t ⌝ }
 {
@@ -73,7 +73,7 @@ pub fn unordered(b: u32, t: u32) -> bool
     is_nan(b) | is_nan(t)
 }
 
-// CMPF. With a NaN, which a step refuses, it is 0.
+// CMPF: CMP of the values. With a NaN, which a step refuses, it is 0.
 pub fn ordered_f(b: u32, t: u32) -> u32
     ensures { λ r. ⌜ r ≡ orderedF b t ⌝ }
 {

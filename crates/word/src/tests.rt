@@ -31,14 +31,14 @@ pub(crate) fn below(b: u32, t: u32) -> bool
 pub fn less(b: u32, t: u32) -> u32
     ensures { λ r. ⌜ r ≡ bit (less b t) ⌝ }
 {
-    bit(below(b, t))
+    below(b, t) as u32
 }
 
 // GREATER: Vb > Vt.
 pub fn greater(b: u32, t: u32) -> u32
     ensures { λ r. ⌜ r ≡ bit (less t b) ⌝ }
 {
-    bit(below(t, b))
+    below(t, b) as u32
 }
 
 // The answer of CMP and CMPF, from the tests Vb < Vt and Vb > Vt: 1 if Vb < Vt, 0 if equal, -1 if Vb > Vt.
@@ -54,7 +54,7 @@ pub(crate) fn sense(less: bool, greater: bool) -> u32
     0
 }
 
-// CMP
+// CMP: how the numbers of b and t are ordered.
 pub fn ordered(b: u32, t: u32) -> u32
     ensures { λ r. ⌜ r ≡ ordered b t ⌝ }
 {
@@ -65,19 +65,19 @@ pub fn ordered(b: u32, t: u32) -> u32
 pub fn is_nil(t: u32) -> u32
     ensures { λ r. ⌜ r ≡ bit (eqb t 0) ⌝ }
 {
-    bit(t == 0)
+    (t == 0) as u32
 }
 
 // ISPOS: Vt > 0.
 pub fn is_pos(t: u32) -> u32
     ensures { λ r. ⌜ r ≡ bit (less 0 t) ⌝ }
 {
-    bit(below(0, t))
+    below(0, t) as u32
 }
 
 // ISNEG: Vt < 0.
 pub fn is_neg(t: u32) -> u32
     ensures { λ r. ⌜ r ≡ bit (less t 0) ⌝ }
 {
-    bit(below(t, 0))
+    below(t, 0) as u32
 }

@@ -1,0 +1,45 @@
+-- `put_target` meets its contract: a space in front of a target. Assumes nothing.
+use Prim.Native.Nat.{_-_, _+_}
+use mathlib.Core.Path.{refl}
+use native.Mathlib.Omega.{arith}
+use borrow.Author.Needs.{needs}
+use Rattle.rules.proofs.Texts as texts
+use Rattle.rules.specs.Listing.{decimal}
+use Rattle.rules.specs.Bytes.{space}
+use Rattle.lister.proofs.Writing as law
+use Rattle.lister.proofs.line.put_target.Statement.{statement}
+use Rattle.lister.proofs.line.put_target.Tie as tie
+
+put-byte-requires : tie.Need-put-byte-requires
+put-byte-requires c κs = search needs
+
+add-put-decimal : tie.Need-add-put-decimal
+add-put-decimal c = search needs
+
+put-decimal-requires : tie.Need-put-decimal-requires
+put-decimal-requires c κs = search needs
+
+add-result : tie.Need-add-result
+add-result c =
+    omega (arith, c .before .before .put-decimal .ensures .length-told, texts.length-decimal 9 (c .before .before .before .before .before .before .before .before .before .args .v))
+
+same-length : tie.Need-same-length
+same-length c = search needs
+
+returns : tie.Need-returns
+returns c =
+    let a = c .before .before .before .before .before .before .before .before .before .args in
+    law.put-front (a .out .now) (c .before .before .before .before .before .before .put-byte .last .0) (c .before .before .put-decimal .last .0) (a .at) (a .at + 0) (a .at + 1) space (c .before .before .put-decimal .result) (decimal 9 (a .v)) (omega arith) refl
+    (c .before .before .before .before .before .before .put-byte .ensures)
+    (c .before .before .put-decimal .ensures)
+
+pub put-target-spec : {M : Type 1} → statement M
+put-target-spec =
+    tie.close
+    (tie.spec
+    put-byte-requires
+    add-put-decimal
+    put-decimal-requires
+    add-result
+    same-length
+    returns)

@@ -1,0 +1,21 @@
+-- The number that 32 bits stand for, in the lower and in the upper half. Assumes nothing.
+use Prim.Native.Nat.{ℕ, suc, _-_, _^_, _≤_, _<_}
+use mathlib.Core.Path.{_≡_, refl, ap, _∙_}
+use mathlib.Core.Bool.{false}
+use native.Mathlib.Omega.{arith}
+use lib.IntN.{pos, negsuc}
+use borrow.Author.Tests.{le-ltb}
+use mir.Syntax.{w32}
+use mir.Facts.{toZ-pos}
+use Rattle.rules.specs.Words.{signed}
+use Rattle.rules.specs.Decide.{inside, memoryAddress}
+
+pub signed-low : (b : ℕ) → b < 2147483648 → signed b ≡ pos b
+signed-low b h = toZ-pos w32 {n = b} h
+
+pub signed-high : (b : ℕ) → 2147483648 ≤ b → signed b ≡ negsuc (2 ^ 32 - suc b)
+signed-high b h = rw (le-ltb b (2 ^ 31) h) refl
+
+-- an address in the upper half is below 0: it lies nowhere
+pub nowhere : (b limit : ℕ) → 2147483648 ≤ b → false ≡ inside (signed b) limit
+nowhere b limit h = rw (signed-high b h) refl

@@ -1,0 +1,44 @@
+-- `machine::addresses::on_store_off` meets its contract. Assumes nothing.
+use Rattle.machine.proofs.Reach.{frame-in, frame-out, frame-below, frame-at}
+use borrow.Author.Tests.{lt-leb, le-leb}
+use Prim.Native.Nat.{_-_}
+use borrow.Author.Needs.{needs}
+use Rattle.machine.proofs.addresses.on_store_off.Statement.{statement}
+use Rattle.machine.proofs.addresses.on_store_off.Tie as tie
+
+returns : tie.Need-returns
+returns c = rw (lt-leb _ _ (c .if1 .taken))
+
+moved-by-requires : tie.Need-moved-by-requires
+moved-by-requires c κs = search needs
+
+enum-known-to : tie.Need-enum-known-to
+enum-known-to c = search needs
+
+stored-requires : tie.Need-stored-requires
+stored-requires c κs = search needs
+
+returns-2 : tie.Need-returns-2
+returns-2 c = rw (c .stored .ensures, le-leb _ _ (c .before .before .before .before .before .before .before .before .if1 .left), frame-in (c .before .before .before .before .before .before .before .before .before .before .args .r) (c .before .before .before .before .before .before .before .before .before .before .args .offset) (c .before .before .before .before .before .before .before .before .before .before .args .r .sp - 1) (c .before .before .before .before .before .to .given .0 .0) (rw (c .before .before .before .before .before .to .given .1) at (c .before .before .before .before .before .before .before .moved-by .ensures)) (c .before .if2 .taken), frame-at (c .before .before .before .before .before .before .before .before .before .before .args .r) (c .before .before .before .before .before .before .before .before .before .before .args .offset) (c .before .before .before .before .before .to .given .0 .0) (rw (c .before .before .before .before .before .to .given .1) at (c .before .before .before .before .before .before .before .moved-by .ensures)))
+
+enum-told : tie.Need-enum-told
+enum-told c = search needs
+
+returns-3 : tie.Need-returns-3
+returns-3 c = rw (le-leb _ _ (c .before .before .before .before .before .before .before .if1 .left), frame-out (c .before .before .before .before .before .before .before .before .before .args .r) (c .before .before .before .before .before .before .before .before .before .args .offset) (c .before .before .before .before .before .before .before .before .before .args .r .sp - 1) (c .before .before .before .before .to .given .0 .0) (rw (c .before .before .before .before .to .given .1) at (c .before .before .before .before .before .before .moved-by .ensures)) (c .if2 .left))
+
+returns-4 : tie.Need-returns-4
+returns-4 c = rw (le-leb _ _ (c .before .before .before .if1 .left), frame-below (c .before .before .before .before .before .args .r) (c .before .before .before .before .before .args .offset) (c .before .before .before .before .before .args .r .sp - 1) (rw (c .enum-told .given .1) at (c .before .before .moved-by .ensures)))
+
+pub on-store-off-spec : {M : Type 1} → statement M
+on-store-off-spec =
+    tie.close
+    (tie.spec
+    returns
+    moved-by-requires
+    enum-known-to
+    stored-requires
+    returns-2
+    enum-told
+    returns-3
+    returns-4)

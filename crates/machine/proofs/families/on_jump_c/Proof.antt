@@ -1,0 +1,31 @@
+-- `machine::families::on_jump_c` meets its contract. Assumes nothing.
+use borrow.Author.Needs.{needs}
+use borrow.Author.Tests.{lt-leb, le-leb, ne-eqb, not-true, not-false}
+use Rattle.machine.proofs.families.on_jump_c.Statement.{statement}
+use Rattle.machine.proofs.families.on_jump_c.Tie as tie
+
+returns : tie.Need-returns
+returns c = rw (lt-leb _ _ (c .if1 .taken))
+
+returns-2 : tie.Need-returns-2
+returns-2 c = rw (le-leb _ _ (c .before .before .if1 .left), ne-eqb _ _ (c .if2 .taken))
+
+add-t8 : tie.Need-add-t8
+add-t8 c = search needs
+
+jumped-requires : tie.Need-jumped-requires
+jumped-requires c κs = search needs
+
+returns-3 : tie.Need-returns-3
+returns-3 c = rw (c .jumped .ensures, le-leb _ _ (c .before .before .before .before .before .before .if1 .left), c .before .before .before .before .if2 .left, c .before .before .if3 .taken)
+
+jumped-requires-2 : tie.Need-jumped-requires-2
+jumped-requires-2 c κs = search needs
+
+returns-4 : tie.Need-returns-4
+returns-4 c = rw (c .jumped2 .ensures, le-leb _ _ (c .before .before .before .before .before .if1 .left), c .before .before .before .if2 .left, ne-eqb _ _ (c .before .if3 .left))
+
+pub on-jump-c-spec : {M : Type 1} → statement M
+on-jump-c-spec =
+    tie.close
+    (tie.spec returns returns-2 add-t8 jumped-requires returns-3 jumped-requires-2 returns-4)

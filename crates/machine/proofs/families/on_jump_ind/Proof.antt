@@ -1,0 +1,23 @@
+-- `machine::families::on_jump_ind` meets its contract. Assumes nothing.
+use borrow.Author.Needs.{needs}
+use borrow.Author.Tests.{lt-leb, le-leb, ne-eqb, not-true, not-false}
+use Rattle.machine.proofs.families.on_jump_ind.Statement.{statement}
+use Rattle.machine.proofs.families.on_jump_ind.Tie as tie
+
+returns : tie.Need-returns
+returns c = rw (lt-leb _ _ (c .if1 .taken))
+
+returns-2 : tie.Need-returns-2
+returns-2 c = rw (le-leb _ _ (c .before .before .if1 .left), ne-eqb _ _ (c .if2 .taken))
+
+cast-t7 : tie.Need-cast-t7
+cast-t7 c = search needs
+
+jumped-requires : tie.Need-jumped-requires
+jumped-requires c κs = search needs
+
+returns-3 : tie.Need-returns-3
+returns-3 c = rw (c .jumped .ensures, le-leb _ _ (c .before .before .before .before .if1 .left), c .before .before .if2 .left)
+
+pub on-jump-ind-spec : {M : Type 1} → statement M
+on-jump-ind-spec = tie.close (tie.spec returns returns-2 cast-t7 jumped-requires returns-3)
