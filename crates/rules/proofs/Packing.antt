@@ -5,15 +5,14 @@ use mathlib.Core.Bool.{Bool, true, false, cond}
 use mathlib.Core.List.{List, [], _∷_, _++_, append-assoc, append-nil}
 use native.Mathlib.Numerals.{add-one}
 use native.Mathlib.Omega.{arith}
-use borrow.Author.Tests.{eq-eqb, ne-eqb, leb-true, eqb-true}
-use lib.Dec.{leb, eqb}
-use lib.ListN.{length, take, drop, getD, replicate, length-append}
-use lib.Seq.{take-suc, length-take-le}
-use Rattle.rules.specs.Lists.{splice, all}
-use Rattle.rules.specs.Sizes.{maxProgram, imageSize}
+use borrow.Author.Tests.{eq-eqb, ne-eqb}
+use lib.ListN.{length, take, getD, replicate, length-append}
+use lib.Seq.{take-suc}
+use Rattle.rules.specs.Lists.{splice}
+use Rattle.rules.specs.Sizes.{imageSize}
 use Rattle.rules.specs.Fields.{field, bitsOf}
 use Rattle.rules.specs.Instructions.{kindOf}
-use Rattle.rules.specs.Table.{Program, program, codeOf, operandOf, soundPlace, isZero, soundTable}
+use Rattle.rules.specs.Table.{Program, program, codeOf, operandOf, soundTable}
 use Rattle.rules.specs.Image.{widthOf, instructionBits, programBits, imageBits, imageLength, packedTo, Filed, pack}
 use Rattle.rules.specs.declared.Kind.{Kind}
 use Rattle.rules.specs.declared.Kind.the-variants.{Bare, Immediate, Pattern, Offset, Target}
@@ -21,27 +20,9 @@ use Rattle.rules.specs.declared.ImageRefusal.the-variants.{TableBroken, 
 use Rattle.rules.specs.declared.Packed.the-variants.{Length, Denied}
 use Rattle.rules.proofs.Fields.{field-length}
 use Rattle.rules.proofs.Splice.{splice-beside}
-use Rattle.rules.proofs.Tests.{and-left, and-right}
+use Rattle.rules.proofs.Effects.{table-short}
+use Rattle.rules.proofs.Table.{used-count}
 use Rattle.rules.proofs.Bits.{Bits, bits-append, bits-field}
-
--- ---- what a sound table is
-pub record Sound (p : Program) : Type 0 where
-  pub short : p .count ≤ maxProgram
-  pub whole : length (p .places) ≡ maxProgram
-  pub used : all (soundPlace (p .count)) (take (p .count) (p .places)) ≡ true
-  pub rest : all isZero (drop (p .count) (p .places)) ≡ true
-
-pub sound-is : (p : Program) → soundTable p ≡ true → Sound p
-unfolding soundTable
-sound-is p e =
-    let e₁ = and-right (leb (p .count) maxProgram) _ e in
-    let e₂ = and-right (eqb (length (p .places)) maxProgram) _ e₁ in
-    record {
-      short = leb-true (p .count) maxProgram (and-left (leb (p .count) maxProgram) _ e);
-      whole = eqb-true (length (p .places)) maxProgram (and-left (eqb (length (p .places)) maxProgram) _ e₁);
-      used = and-left (all (soundPlace (p .count)) (take (p .count) (p .places))) _ e₂;
-      rest = and-right (all (soundPlace (p .count)) (take (p .count) (p .places))) _ e₂;
-    }
 
 -- ---- one instruction
 
@@ -132,12 +113,11 @@ program-most (p ∷ ps) =
     omega (arith, length-append (instructionBits p) (programBits ps), instruction-length p, width-most (kindOf (codeOf p)), program-most ps)
 
 -- the image of a sound program fits 4,866 bytes
-pub image-fits : (p : Program) → Sound p → imageLength p ≤ imageSize
+pub image-fits : (p : Program) → soundTable p ≡ true → imageLength p ≤ imageSize
 unfolding imageLength imageBits
 image-fits p s =
     let ps : List ℕ = take (p .count) (p .places) in
-    let lp : length ps ≡ p .count = length-take-le (p .count) (p .places) (omega (arith, s .short, s .whole)) in
-    omega (arith, s .short, program-most ps, length-append (field 11 (p .count)) (programBits ps), field-length 11 (p .count))
+    omega (arith, table-short p s, used-count p s, program-most ps, length-append (field 11 (p .count)) (programBits ps), field-length 11 (p .count))
 
 -- ---- the three answers
 module _ (p : Program) (out : List ℕ) where

@@ -1,7 +1,7 @@
 -- Each answer by its law. Assumes nothing.
-use Prim.Native.Nat.{ℕ, _≤_}
+use Prim.Native.Nat.{ℕ}
 use mathlib.Core.Path.{_≡_, sym, ap, _∙_}
-use mathlib.Core.Bool.{true, false}
+use mathlib.Core.Bool.{true}
 use native.Mathlib.Omega.{arith}
 use borrow.Author.Needs.{needs}
 use borrow.Author.Tests.{not-true, not-false}
@@ -10,7 +10,8 @@ use lib.ListN.{replicate}
 use Rattle.rules.specs.Table.{program, soundTable}
 use Rattle.rules.specs.Image.{Filed}
 use Rattle.rules.specs.declared.Packed.the-variants.{Length}
-use Rattle.rules.proofs.Packing.{sound-is, pack-length, pack-broken, pack-done}
+use Rattle.rules.proofs.Effects.{table-short, table-long}
+use Rattle.rules.proofs.Packing.{pack-length, pack-broken, pack-done}
 use Rattle.image.proofs.pack.Statement.{statement}
 use Rattle.image.proofs.pack.Tie as tie
 
@@ -42,8 +43,9 @@ write-image-requires : tie.Need-write-image-requires
 write-image-requires c κs =
     let a = c .before .before .before .before .before .before .before .before .before .before .args in
     let l = c .before .before .before .before .before .before .before .if1 .left in
-    let s = sound-is (program (now (a .table)) (a .length)) (sym (c .before .before .is-sound .ensures) ∙ not-false _ (c .before .if2 .left)) in
-    (s .short, omega (arith, s .short, s .whole), c .before .before .before .before .before .clear-bytes .ensures ∙ ap (λ (k : ℕ). replicate k 0) l)
+    let p = program (now (a .table)) (a .length) in
+    let s : soundTable p ≡ true = sym (c .before .before .is-sound .ensures) ∙ not-false _ (c .before .if2 .left) in
+    (table-short p s, omega (arith, table-short p s, table-long p s), c .before .before .before .before .before .clear-bytes .ensures ∙ ap (λ (k : ℕ). replicate k 0) l)
 
 same-length-2 : tie.Need-same-length-2
 same-length-2 c = search needs
