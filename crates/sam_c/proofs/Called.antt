@@ -1,7 +1,7 @@
 -- From what the callees ensure to a whole call: the number, what is told and what is left, put together. Assumes nothing.
 use Prim.Native.Nat.{ℕ}
 use mathlib.Core.Path.{_≡_, sym, ap, _∙_}
-use mathlib.Core.List.{List, [], _∷_}
+use mathlib.Core.List.{List}
 use lib.ListN.{length}
 use Rattle.rules.specs.Table.{Program}
 use Rattle.rules.specs.State.{Memory, memory}
@@ -15,12 +15,12 @@ use Rattle.state.specs.Outcomes.{started, stepped}
 use Rattle.sam_c.specs.Calls.{Filled, Moved, filled, moved, ofLength, listOf, registersOf, resetMoved, stepMoved}
 use Rattle.sam_c.proofs.Lent.{of-length}
 
--- a call that tells one length, whose answer is a′ and which leaves out′
-module _ {A : Type 0} (number tells : A → ℕ) (l : List ℕ) (h : length l ≡ 1) (instead : Filled) where
-  pub filled-one : {k v : ℕ} {a a′ : A} {told out out′ : List ℕ} → a ≡ a′ → out ≡ out′ → v ≡ tells a → told ≡ v ∷ [] → k ≡ number a
-      → filled k told out ≡ ofLength 1 l (filled (number a′) (tells a′ ∷ []) out′) instead
-  filled-one ea eo ev et ek =
-      (λ i. filled ((ek ∙ ap number ea) i) ((et ∙ ap (λ (x : ℕ). x ∷ []) (ev ∙ ap tells ea)) i) (eo i)) ∙ sym (of-length 1 l _ _ h)
+-- a call that fills an output, whose answer is a′ and which leaves out′
+module _ {A : Type 0} (number : A → ℕ) (tells : A → List ℕ) (n : ℕ) (l : List ℕ) (h : length l ≡ n) (instead : Filled) where
+  pub filled-by : {k : ℕ} {a a′ : A} {told out out′ : List ℕ} → a ≡ a′ → out ≡ out′ → told ≡ tells a → k ≡ number a
+      → filled k told out ≡ ofLength n l (filled (number a′) (tells a′) out′) instead
+  filled-by ea eo et ek =
+      (λ i. filled ((ek ∙ ap number ea) i) ((et ∙ ap tells ea) i) (eo i)) ∙ sym (of-length n l _ _ h)
 
 module _ (l : List ℕ) (h : length l ≡ 7) (instead : Moved) where
   pub reset-called : {k : ℕ} {a : Reset} {s : Started} {registers bits tags history : List ℕ} → started a bits tags history ≡ s

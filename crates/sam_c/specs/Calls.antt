@@ -7,12 +7,13 @@ use lib.ListN.{length, getD}
 use lib.Dec.{eqb}
 use Rattle.rules.specs.Table.{Program}
 use Rattle.rules.specs.State.{Memory}
+use Rattle.rules.specs.Assemble.{Assembly, assemble}
 use Rattle.rules.specs.Listing.{Written, list}
 use Rattle.rules.specs.Image.{Filed, pack, unpack}
 use Rattle.rules.specs.Reset.{Started, reset}
 use Rattle.rules.specs.Step.{Stepped}
 use Rattle.rules.specs.Back.{back}
-use Rattle.rules.specs.Numbers.{machineNumber, textNumber, numberOfListed, lengthOfListed, numberOfPacked, lengthOfPacked, numberOfReset, numberOfStep, registersAfter}
+use Rattle.rules.specs.Numbers.{machineNumber, textNumber, numberOfAssembled, lengthOfAssembled, placeOfAssembled, numberOfListed, lengthOfListed, numberOfPacked, lengthOfPacked, numberOfReset, numberOfStep, registersAfter}
 use Rattle.rules.specs.declared.Registers.{Registers}
 use Rattle.rules.specs.declared.MachineRefusal.the-variants.{Broken}
 use Rattle.rules.specs.declared.TextRefusal.the-variants.{WrongLength}
@@ -67,6 +68,13 @@ registersOf l =
     }
 
 -- ---- the calls that fill an output
+
+abbrev pub assembleFilled : Assembly → Filled
+assembleFilled a =
+    filled (numberOfAssembled (a .answer)) (lengthOfAssembled (a .answer) ∷ placeOfAssembled (a .answer) ∷ []) (a .table)
+
+abbrev pub assembleCall : List ℕ → List ℕ → List ℕ → Filled
+assembleCall source table told = ofLength 2 told (assembleFilled (assemble source table)) (filled notItsLength told table)
 
 abbrev pub listFilled : Written → Filled
 listFilled w = filled (numberOfListed (w .answer)) (lengthOfListed (w .answer) ∷ []) (w .bytes)

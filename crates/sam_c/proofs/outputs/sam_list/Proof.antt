@@ -1,9 +1,12 @@
 -- `sam_list` meets its contract: what the lister answers and leaves, and the length told. Assumes nothing.
-use mathlib.Core.Path.{sym}
+use Prim.Native.Nat.{ℕ}
+use mathlib.Core.Path.{sym, ap, _∙_}
+use mathlib.Core.List.{[], _∷_}
 use borrow.Author.Needs.{needs}
 use Rattle.rules.specs.Numbers.{numberOfListed, lengthOfListed}
+use Rattle.rules.specs.declared.Listed.{Listed}
 use Rattle.sam_c.proofs.Lent.{of-another}
-use Rattle.sam_c.proofs.Called.{filled-one}
+use Rattle.sam_c.proofs.Called.{filled-by}
 use Rattle.sam_c.proofs.outputs.sam_list.Statement.{statement}
 use Rattle.sam_c.proofs.outputs.sam_list.Tie as tie
 
@@ -30,11 +33,10 @@ same-length-2 c = search needs
 
 returns-2 : tie.Need-returns-2
 returns-2 c =
-    filled-one numberOfListed lengthOfListed (c .before .before .before .before .before .before .before .before .before .before .before .before .before .before .args .told .now) (c .before .before .before .before .before .before .before .before .before .before .if1 .left) _
+    filled-by numberOfListed (λ (a : Listed). lengthOfListed a ∷ []) 1 (c .before .before .before .before .before .before .before .before .before .before .before .before .before .before .args .told .now) (c .before .before .before .before .before .before .before .before .before .before .if1 .left) _
     (c .before .before .before .before .before .before .before .before .list .ensures .0)
     (c .before .before .before .before .before .before .before .before .list .ensures .1)
-    (c .before .before .before .before .listed-length .ensures)
-    (c .before .before .before .tell .ensures)
+    (c .before .before .before .tell .ensures ∙ ap (λ (x : ℕ). x ∷ []) (c .before .before .before .before .listed-length .ensures))
     (c .listed-number .ensures)
 
 pub sam-list-spec : {M : Type 1} → statement M

@@ -1,9 +1,12 @@
 -- `sam_unpack` meets its contract: what the unpacker answers and leaves, and the length told. Assumes nothing.
-use mathlib.Core.Path.{sym}
+use Prim.Native.Nat.{ℕ}
+use mathlib.Core.Path.{sym, ap, _∙_}
+use mathlib.Core.List.{[], _∷_}
 use borrow.Author.Needs.{needs}
 use Rattle.rules.specs.Numbers.{numberOfPacked, lengthOfPacked}
+use Rattle.rules.specs.declared.Packed.{Packed}
 use Rattle.sam_c.proofs.Lent.{of-another}
-use Rattle.sam_c.proofs.Called.{filled-one}
+use Rattle.sam_c.proofs.Called.{filled-by}
 use Rattle.sam_c.proofs.outputs.sam_unpack.Statement.{statement}
 use Rattle.sam_c.proofs.outputs.sam_unpack.Tie as tie
 
@@ -30,11 +33,10 @@ same-length-2 c = search needs
 
 returns-2 : tie.Need-returns-2
 returns-2 c =
-    filled-one numberOfPacked lengthOfPacked (c .before .before .before .before .before .before .before .before .before .before .before .before .before .before .args .told .now) (c .before .before .before .before .before .before .before .before .before .before .if1 .left) _
+    filled-by numberOfPacked (λ (a : Packed). lengthOfPacked a ∷ []) 1 (c .before .before .before .before .before .before .before .before .before .before .before .before .before .before .args .told .now) (c .before .before .before .before .before .before .before .before .before .before .if1 .left) _
     (c .before .before .before .before .before .before .before .before .unpack .ensures .0)
     (c .before .before .before .before .before .before .before .before .unpack .ensures .1)
-    (c .before .before .before .before .packed-length .ensures)
-    (c .before .before .before .tell .ensures)
+    (c .before .before .before .tell .ensures ∙ ap (λ (x : ℕ). x ∷ []) (c .before .before .before .before .packed-length .ensures))
     (c .packed-number .ensures)
 
 pub sam-unpack-spec : {M : Type 1} → statement M
