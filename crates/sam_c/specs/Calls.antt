@@ -11,9 +11,10 @@ use Rattle.rules.specs.Assemble.{Assembly, assemble}
 use Rattle.rules.specs.Listing.{Written, list}
 use Rattle.rules.specs.Image.{Filed, pack, unpack}
 use Rattle.rules.specs.Reset.{Started, reset}
-use Rattle.rules.specs.Step.{Stepped}
+use Rattle.rules.specs.Step.{Stepped, step}
 use Rattle.rules.specs.Back.{back}
-use Rattle.rules.specs.Numbers.{machineNumber, textNumber, numberOfAssembled, lengthOfAssembled, placeOfAssembled, numberOfListed, lengthOfListed, numberOfPacked, lengthOfPacked, numberOfReset, numberOfStep, registersAfter}
+use Rattle.rules.specs.Run.{Ran, run}
+use Rattle.rules.specs.Numbers.{machineNumber, textNumber, numberOfAssembled, lengthOfAssembled, placeOfAssembled, numberOfListed, lengthOfListed, numberOfPacked, lengthOfPacked, numberOfReset, numberOfStep, registersAfter, numberOfEnding}
 use Rattle.rules.specs.declared.Registers.{Registers}
 use Rattle.rules.specs.declared.MachineRefusal.the-variants.{Broken}
 use Rattle.rules.specs.declared.TextRefusal.the-variants.{WrongLength}
@@ -37,6 +38,14 @@ pub record Moved : Type 0 where
 
 abbrev pub moved : ℕ → List ℕ → Memory → Moved
 moved k registers m = record { number = k; registers = registers; memory = m }
+
+-- of a run: the same, and what it tells
+pub record Walked : Type 0 where
+  pub told : List ℕ
+  pub moved : Moved
+
+abbrev pub walked : List ℕ → ℕ → List ℕ → Memory → Walked
+walked told k registers m = record { told = told; moved = moved k registers m }
 
 -- ---- lent slices of one length
 
@@ -104,6 +113,21 @@ resetCall p registers m = ofLength 7 registers (resetMoved (reset p m)) (moved b
 abbrev pub stepMoved : Registers → Stepped → Moved
 stepMoved r s = moved (numberOfStep (s .answer)) (listOf (registersAfter r (s .answer))) (s .memory)
 
+abbrev pub stepCall : Program → List ℕ → Memory → Moved
+stepCall p registers m =
+    ofLength 7 registers (stepMoved (registersOf registers) (step p (registersOf registers) m)) (moved broken registers m)
+
 abbrev pub backCall : Program → List ℕ → Memory → Moved
 backCall p registers m =
     ofLength 7 registers (stepMoved (registersOf registers) (back p (registersOf registers) m)) (moved broken registers m)
+
+-- "It also tells the number of steps it made."
+abbrev pub runWalked : Ran → Walked
+runWalked r =
+    walked (r .answer .steps ∷ []) (numberOfEnding (r .answer .ending)) (listOf (r .answer .registers)) (r .memory)
+
+abbrev pub runCall : Program → ℕ → List ℕ → Memory → List ℕ → Walked
+runCall p limit registers m told =
+    ofLength 1 told
+    (ofLength 7 registers (runWalked (run p limit (registersOf registers) m)) (walked (0 ∷ []) broken registers m))
+    (walked told notItsLength registers m)

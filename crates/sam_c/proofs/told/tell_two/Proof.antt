@@ -1,8 +1,8 @@
 -- `tell_two` meets its contract. Assumes nothing.
 use borrow.Author.Needs.{needs}
 use Rattle.sam_c.proofs.Lent.{set-two}
-use Rattle.sam_c.proofs.outputs.tell_two.Statement.{statement}
-use Rattle.sam_c.proofs.outputs.tell_two.Tie as tie
+use Rattle.sam_c.proofs.told.tell_two.Statement.{statement}
+use Rattle.sam_c.proofs.told.tell_two.Tie as tie
 
 slice-write-told : tie.Need-slice-write-told
 slice-write-told c = search needs

@@ -1,8 +1,8 @@
 -- `tell` meets its contract. Assumes nothing.
 use borrow.Author.Needs.{needs}
 use Rattle.sam_c.proofs.Lent.{set-one}
-use Rattle.sam_c.proofs.outputs.tell.Statement.{statement}
-use Rattle.sam_c.proofs.outputs.tell.Tie as tie
+use Rattle.sam_c.proofs.told.tell.Statement.{statement}
+use Rattle.sam_c.proofs.told.tell.Tie as tie
 
 slice-write-told : tie.Need-slice-write-told
 slice-write-told c = search needs

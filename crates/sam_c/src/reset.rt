@@ -1,10 +1,10 @@
-// The calls on a machine: reset, step, step-back, run. Registers of another length than seven are 10.
+// The reset for C.
 use crate::numbers;
 use crate::registers;
 ghost use mathlib.Core.Path.{_≡_};
 ghost use Rattle.rules.specs.Table.{program};
 ghost use Rattle.rules.specs.State.{memory};
-ghost use Rattle.sam_c.specs.Calls.{moved, resetCall, backCall};
+ghost use Rattle.sam_c.specs.Calls.{moved, resetCall};
 
 // Sets cells to INT 0, all history places to 0, N and H to the lent counts and the other registers to 0; refused, sets the registers to 0.
 #[no_mangle]
@@ -26,25 +26,4 @@ pub extern "C" fn sam_reset(
     let begun = answer.begun;
     registers::write(registers, r);
     numbers::reset_number(begun)
-}
-
-// Takes the last step back.
-#[no_mangle]
-pub extern "C" fn sam_step_back(
-    table: &[u64],
-    length: u64,
-    registers: &mut [u64],
-    bits: &mut [u32],
-    tags: &mut [u8],
-    history: &mut [u64],
-) -> u32
-    ensures { λ a. ⌜ moved a (now (registers .exit)) (memory (now (bits .exit)) (now (tags .exit)) (now (history .exit))) ≡ backCall (program (now (table .entry)) length) (now (registers .entry)) (memory (now (bits .entry)) (now (tags .entry)) (now (history .entry))) ⌝ }
-{
-    if registers.len() != 7 {
-        return 10;
-    }
-    let r = registers::read(registers);
-    let answer = back::step_back(table, length as usize, r, bits, tags, history);
-    registers::write(registers, registers::after(r, answer));
-    numbers::step_number(answer)
 }

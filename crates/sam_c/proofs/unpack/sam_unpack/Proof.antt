@@ -7,8 +7,8 @@ use Rattle.rules.specs.Numbers.{numberOfPacked, lengthOfPacked}
 use Rattle.rules.specs.declared.Packed.{Packed}
 use Rattle.sam_c.proofs.Lent.{of-another}
 use Rattle.sam_c.proofs.Called.{filled-by}
-use Rattle.sam_c.proofs.outputs.sam_unpack.Statement.{statement}
-use Rattle.sam_c.proofs.outputs.sam_unpack.Tie as tie
+use Rattle.sam_c.proofs.unpack.sam_unpack.Statement.{statement}
+use Rattle.sam_c.proofs.unpack.sam_unpack.Tie as tie
 
 returns : tie.Need-returns
 returns c = sym (of-another 1 (c .before .before .before .before .args .told .now) _ _ (c .if1 .taken))

@@ -7,8 +7,8 @@ use Rattle.rules.specs.Numbers.{numberOfListed, lengthOfListed}
 use Rattle.rules.specs.declared.Listed.{Listed}
 use Rattle.sam_c.proofs.Lent.{of-another}
 use Rattle.sam_c.proofs.Called.{filled-by}
-use Rattle.sam_c.proofs.outputs.sam_list.Statement.{statement}
-use Rattle.sam_c.proofs.outputs.sam_list.Tie as tie
+use Rattle.sam_c.proofs.list.sam_list.Statement.{statement}
+use Rattle.sam_c.proofs.list.sam_list.Tie as tie
 
 returns : tie.Need-returns
 returns c = sym (of-another 1 (c .before .before .before .before .args .told .now) _ _ (c .if1 .taken))

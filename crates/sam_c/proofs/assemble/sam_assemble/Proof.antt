@@ -6,8 +6,8 @@ use Rattle.rules.specs.Numbers.{numberOfAssembled, lengthOfAssembled, placeOfAs
 use Rattle.rules.specs.declared.Assembled.{Assembled}
 use Rattle.sam_c.proofs.Lent.{of-another}
 use Rattle.sam_c.proofs.Called.{filled-by}
-use Rattle.sam_c.proofs.outputs.sam_assemble.Statement.{statement}
-use Rattle.sam_c.proofs.outputs.sam_assemble.Tie as tie
+use Rattle.sam_c.proofs.assemble.sam_assemble.Statement.{statement}
+use Rattle.sam_c.proofs.assemble.sam_assemble.Tie as tie
 
 returns : tie.Need-returns
 returns c = sym (of-another 2 (c .before .before .before .before .args .told .now) _ _ (c .if1 .taken))

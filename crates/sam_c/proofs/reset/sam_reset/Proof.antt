@@ -3,8 +3,8 @@ use mathlib.Core.Path.{sym}
 use borrow.Author.Needs.{needs}
 use Rattle.sam_c.proofs.Lent.{of-another}
 use Rattle.sam_c.proofs.Called.{reset-called}
-use Rattle.sam_c.proofs.moves.sam_reset.Statement.{statement}
-use Rattle.sam_c.proofs.moves.sam_reset.Tie as tie
+use Rattle.sam_c.proofs.reset.sam_reset.Statement.{statement}
+use Rattle.sam_c.proofs.reset.sam_reset.Tie as tie
 
 returns : tie.Need-returns
 returns c = sym (of-another 7 (c .before .before .before .before .before .before .args .registers .now) _ _ (c .if1 .taken))
