@@ -14,6 +14,17 @@ ghost use Rattle.rules.specs.State.{memory, sound};
 ghost use Rattle.rules.specs.Run.{runFrom, run};
 ghost use Rattle.machine.specs.Outcomes.{ran};
 
+// A run's answer.
+fn ended(made: usize, how: Ending, at: Registers) -> Run
+    ensures { λ a. ⌜ a ≡ record { steps = made; ending = how; registers = at } ⌝ }
+{
+    Run {
+        steps: made,
+        ending: how,
+        registers: at,
+    }
+}
+
 // The turns of a run from a sound state, whose soundness is not judged again: each accepted step leaves a sound state.
 fn run_from(
     table: &[u64],
@@ -33,11 +44,7 @@ fn run_from(
     let mut at = r;
     while made < limit {
         if at.halt == 1 {
-            return Run {
-                steps: made,
-                ending: Ending::Halted,
-                registers: at,
-            };
+            return ended(made, Ending::Halted, at);
         }
         let next = step::plain_step(table, count, at, bits, tags, history);
         match next {
@@ -45,27 +52,15 @@ fn run_from(
                 at = registers;
             }
             Step::Refused(refusal) => {
-                return Run {
-                    steps: made,
-                    ending: Ending::Stopped(refusal),
-                    registers: at,
-                };
+                return ended(made, Ending::Stopped(refusal), at);
             }
         }
         made += 1;
     }
     if at.halt == 1 {
-        return Run {
-            steps: made,
-            ending: Ending::Halted,
-            registers: at,
-        };
+        return ended(made, Ending::Halted, at);
     }
-    Run {
-        steps: made,
-        ending: Ending::LimitReached,
-        registers: at,
-    }
+    ended(made, Ending::LimitReached, at)
 }
 
 // A run of at most `limit` steps. It tells the steps it made, how it ended, and the registers it left.
@@ -83,19 +78,11 @@ pub fn run(
     ensures { λ a. ⌜ a .steps ≤ limit ⌝ }
 {
     if 1000000 < limit {
-        return Run {
-            steps: 0,
-            ending: Ending::Stopped(MachineRefusal::OutsideSizes),
-            registers: r,
-        };
+        return ended(0, Ending::Stopped(MachineRefusal::OutsideSizes), r);
     }
     let sound = state::is_sound(table, length, r, bits, tags, history);
     if !sound {
-        return Run {
-            steps: 0,
-            ending: Ending::Stopped(MachineRefusal::Broken),
-            registers: r,
-        };
+        return ended(0, Ending::Stopped(MachineRefusal::Broken), r);
     }
     run_from(table, length, r, bits, tags, history, limit)
 }

@@ -9,14 +9,20 @@ use Rattle.rules.proofs.Runs.{run-long, run-broken, run-enter, both}
 use Rattle.machine.proofs.run.run.Statement.{statement}
 use Rattle.machine.proofs.run.run.Tie as tie
 
+ended-requires : tie.Need-ended-requires
+ended-requires c κs = search needs
+
 returns : tie.Need-returns
 returns c =
-    let a = c .before .before .before .before .before .args in
-    let e = both (sym (run-long (program (a .table .now) (a .length)) (a .limit) (a .r) (memory (a .bits .now) (a .tags .now) (a .history .now)) (lt-leb _ _ (c .if1 .taken)))) in
-    (e .0, (e .1, zero-le))
+    let a = c .before .before .before .before .before .before .args in
+    let e = both (sym (run-long (program (a .table .now) (a .length)) (a .limit) (a .r) (memory (a .bits .now) (a .tags .now) (a .history .now)) (lt-leb _ _ (c .before .if1 .taken)))) in
+    rw (c .ended .ensures) (e .0, (e .1, zero-le))
 
 is-sound-requires : tie.Need-is-sound-requires
 is-sound-requires c κs = search needs
+
+ended-requires-2 : tie.Need-ended-requires-2
+ended-requires-2 c κs = search needs
 
 same-length : tie.Need-same-length
 same-length c = search needs
@@ -29,15 +35,13 @@ same-length-3 c = search needs
 
 returns-2 : tie.Need-returns-2
 returns-2 c =
-    let a = c .before .before .before .before .before .before .before .before .before .before .args in
-    let e = both (sym (run-broken (program (a .table .now) (a .length)) (a .limit) (a .r) (memory (a .bits .now) (a .tags .now) (a .history .now)) (le-leb _ _ (c .before .before .before .before .before .if1 .left)) (sym (c .before .is-sound .ensures) ∙ not-true _ (c .if2 .taken)))) in
-    (e .0, (e .1, zero-le))
+    let a = c .before .before .before .before .before .before .before .before .before .before .before .args in
+    let e = both (sym (run-broken (program (a .table .now) (a .length)) (a .limit) (a .r) (memory (a .bits .now) (a .tags .now) (a .history .now)) (le-leb _ _ (c .before .before .before .before .before .before .if1 .left)) (sym (c .before .before .is-sound .ensures) ∙ not-true _ (c .before .if2 .taken)))) in
+    rw (c .ended2 .ensures) (e .0, (e .1, zero-le))
 
 run-from-requires : tie.Need-run-from-requires
-run-from-requires c κs = (
-  sym (c .before .before .before .before .is-sound .ensures) ∙ not-false _ (c .before .before .before .if2 .left),
-  c .before .before .before .before .before .before .before .before .if1 .left,
-)
+run-from-requires c κs =
+    (sym (c .before .before .before .before .is-sound .ensures) ∙ not-false _ (c .before .before .before .if2 .left), c .before .before .before .before .before .before .before .before .if1 .left)
 
 same-length-4 : tie.Need-same-length-4
 same-length-4 c = search needs
@@ -62,8 +66,10 @@ pub run-spec : {M : Type 1} → statement M
 run-spec =
     tie.close
     (tie.spec
+    ended-requires
     returns
     is-sound-requires
+    ended-requires-2
     same-length
     same-length-2
     same-length-3

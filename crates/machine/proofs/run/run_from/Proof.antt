@@ -16,7 +16,8 @@ use Rattle.machine.proofs.run.run_from.Tie as tie
 abbrev Inv-loop : tie.InvT-loop
 Inv-loop table count bits₀ tags₀ history₀ limit made₀ at₀ bits tags history made at =
     (made ≤ limit) × (sound (program table count) at (memory bits tags history) ≡ true)
-    × (runFrom (program table count) (limit - made) made at (memory bits tags history) ≡ runFrom (program table count) limit 0 at₀ (memory bits₀ tags₀ history₀))
+    × (runFrom (program table count) (limit - made) made at (memory bits tags history)
+    ≡ runFrom (program table count) limit 0 at₀ (memory bits₀ tags₀ history₀))
     × (length bits ≡ length bits₀) × (length tags ≡ length tags₀) × (length history ≡ length history₀)
 
 abbrev μ-loop : tie.MeasureT-loop
@@ -26,6 +27,9 @@ loop-holds : tie.Need-loop-holds Inv-loop μ-loop
 loop-holds c =
     let a = c .before .before .before .before .args in
     (zero-le, c .before .before .before .before .pre .0, turn-first (program (a .table .now) (a .count)) (a .limit) (a .r) (memory (a .bits .now) (a .tags .now) (a .history .now)), refl, refl, refl)
+
+ended-requires : tie.Need-ended-requires Inv-loop μ-loop
+ended-requires c κs = search needs
 
 same-length : tie.Need-same-length Inv-loop μ-loop
 same-length c = search needs
@@ -38,11 +42,11 @@ same-length-3 c = search needs
 
 returns : tie.Need-returns Inv-loop μ-loop
 returns c =
-    let a = c .before .before .before .before .before .before .before .before .args in
+    let a = c .before .before .before .before .before .before .before .before .before .args in
     let p = program (a .table .now) (a .count) in
-    let l = c .before .before .before .loop in
+    let l = c .before .before .before .before .loop in
     let m = memory (l .bits) (l .tags) (l .history) in
-    (turn-halted p (a .limit) (l .made) (l .at) m (c .if1 .taken) ∙ l .inv .2, l .inv .0)
+    rw (c .ended .ensures) (turn-halted p (a .limit) (l .made) (l .at) m (c .before .if1 .taken) ∙ l .inv .2, l .inv .0)
 
 plain-step-requires : tie.Need-plain-step-requires Inv-loop μ-loop
 plain-step-requires c κs = c .before .before .before .before .before .before .loop .inv .1
@@ -52,6 +56,9 @@ enum-known-next c = search needs
 
 enum-known-next-2 : tie.Need-enum-known-next-2 Inv-loop μ-loop
 enum-known-next-2 c = search needs
+
+ended-requires-2 : tie.Need-ended-requires-2 Inv-loop μ-loop
+ended-requires-2 c κs = search needs
 
 same-length-4 : tie.Need-same-length-4 Inv-loop μ-loop
 same-length-4 c = search needs
@@ -64,14 +71,14 @@ same-length-6 c = search needs
 
 returns-2 : tie.Need-returns-2 Inv-loop μ-loop
 returns-2 c =
-    let a = c .before .before .before .before .before .before .before .before .before .before .before .before .before .before .before .before .before .before .before .before .before .args in
+    let a = c .before .before .before .before .before .before .before .before .before .before .before .before .before .before .before .before .before .before .before .before .before .before .args in
     let p = program (a .table .now) (a .count) in
-    let l = c .before .before .before .before .before .before .before .before .before .before .before .before .before .before .before .before .loop in
+    let l = c .before .before .before .before .before .before .before .before .before .before .before .before .before .before .before .before .before .loop in
     let m = memory (l .bits) (l .tags) (l .history) in
-    let done = c .before .before .before .before .before .before .before .before .before .plain-step in
-    let x = c .before .next2 .given in (
-      turn-refused p (a .limit) (l .made) (l .at) m (c .before .before .before .before .before .before .before .before .before .before .before .before .before .if1 .left) (c .before .before .before .before .before .before .before .before .before .before .before .before .before .before .before .loop-test .taken) (done .result) (x .0 .0) _ _ _ (l .inv .1) (x .1)
-          (done .ensures)
+    let done = c .before .before .before .before .before .before .before .before .before .before .plain-step in
+    let x = c .before .before .next2 .given in
+    rw (c .ended2 .ensures) (
+      turn-refused p (a .limit) (l .made) (l .at) m (c .before .before .before .before .before .before .before .before .before .before .before .before .before .before .if1 .left) (c .before .before .before .before .before .before .before .before .before .before .before .before .before .before .before .before .loop-test .taken) (done .result) (x .0 .0) _ _ _ (l .inv .1) (x .1) (done .ensures)
           ∙ l .inv .2,
       l .inv .0,
     )
@@ -99,6 +106,9 @@ loop-again c =
       done .kept .1 .1 .1 .1 .1 .0 ∙ l .inv .5,
     )
 
+ended-requires-3 : tie.Need-ended-requires-3 Inv-loop μ-loop
+ended-requires-3 c κs = search needs
+
 same-length-7 : tie.Need-same-length-7 Inv-loop μ-loop
 same-length-7 c = search needs
 
@@ -110,11 +120,14 @@ same-length-9 c = search needs
 
 returns-3 : tie.Need-returns-3 Inv-loop μ-loop
 returns-3 c =
-    let a = c .before .before .before .before .before .before .before .before .args in
+    let a = c .before .before .before .before .before .before .before .before .before .args in
     let p = program (a .table .now) (a .count) in
-    let l = c .before .before .before .loop in
+    let l = c .before .before .before .before .loop in
     let m = memory (l .bits) (l .tags) (l .history) in
-    (turn-halted p (a .limit) (l .made) (l .at) m (c .if2 .taken) ∙ l .inv .2, l .inv .0)
+    rw (c .ended3 .ensures) (turn-halted p (a .limit) (l .made) (l .at) m (c .before .if2 .taken) ∙ l .inv .2, l .inv .0)
+
+ended-requires-4 : tie.Need-ended-requires-4 Inv-loop μ-loop
+ended-requires-4 c κs = search needs
 
 same-length-10 : tie.Need-same-length-10 Inv-loop μ-loop
 same-length-10 c = search needs
@@ -127,11 +140,11 @@ same-length-12 c = search needs
 
 returns-4 : tie.Need-returns-4 Inv-loop μ-loop
 returns-4 c =
-    let a = c .before .before .before .before .before .before .before .before .args in
+    let a = c .before .before .before .before .before .before .before .before .before .args in
     let p = program (a .table .now) (a .count) in
-    let l = c .before .before .before .loop in
+    let l = c .before .before .before .before .loop in
     let m = memory (l .bits) (l .tags) (l .history) in
-    (turn-limit p (a .limit) (l .made) (l .at) m (c .if2 .left) (c .before .before .loop-test .left) ∙ l .inv .2, l .inv .0)
+    rw (c .ended4 .ensures) (turn-limit p (a .limit) (l .made) (l .at) m (c .before .if2 .left) (c .before .before .before .loop-test .left) ∙ l .inv .2, l .inv .0)
 
 pub run-from-spec : {M : Type 1} → statement M
 run-from-spec =
@@ -140,6 +153,7 @@ run-from-spec =
     Inv-loop
     μ-loop
     loop-holds
+    ended-requires
     same-length
     same-length-2
     same-length-3
@@ -147,6 +161,7 @@ run-from-spec =
     plain-step-requires
     enum-known-next
     enum-known-next-2
+    ended-requires-2
     same-length-4
     same-length-5
     same-length-6
@@ -154,10 +169,12 @@ run-from-spec =
     add-made
     loop-less
     loop-again
+    ended-requires-3
     same-length-7
     same-length-8
     same-length-9
     returns-3
+    ended-requires-4
     same-length-10
     same-length-11
     same-length-12
