@@ -1,3 +1,5 @@
+pub mod Stored
+pub mod Blocks
 pub mod Signed
 pub mod Reach
 pub mod PastEnd

@@ -12,13 +12,9 @@ use native.Mathlib.Nat.{suc-mul, mul-le-mul-right, pow-suc, mul-le-mul-left, pow
 use Rattle.rules.specs.declared.Numeral.the-variants.{Value, WrongForm, OutOfRange}
 use borrow.Author.Tests.{ltb-true, eq-eqb, ne-eqb, le-leb, lt-leb, lt-ltb, le-ltb}
 use Rattle.rules.proofs.Tests.{drop-next, and-left, and-right}
-use Rattle.rules.specs.Operands.{digitOf, allDigits, numeral, isNumeral, signs, negated, ranged, numberOf, patternOf}
+use Rattle.rules.specs.Operands.{digitOf, allDigits, numeral, isNumeral, signs, ranged, numberOf, patternOf}
 
 module _ (b : ℕ) where
-  pub digit-09 : 48 ≤ b → b ≤ 57 → digitOf b ≡ b - 48
-  unfolding digitOf
-  digit-09 h k = rw (le-leb 48 b h, le-leb b 57 k)
-
   pub digit-AF : 65 ≤ b → b ≤ 70 → digitOf b ≡ b - 55
   unfolding digitOf
   digit-AF h k = rw (le-leb 48 b (omega arith), lt-leb b 57 (omega arith), le-leb 65 b h, le-leb b 70 k)
@@ -153,24 +149,11 @@ unfolding signs
 signs-minus [] h k = absurd (omega arith)
 signs-minus (b ∷ s) h k = rw (eq-eqb b 45 k)
 
-pub signs-other : (t : List ℕ) → (getD t 0 0 ≡ 45 → ⊥) → signs t ≡ 0
-unfolding signs
-signs-other [] k = refl
-signs-other (b ∷ s) k = rw (ne-eqb b 45 k)
-
 module _ (least most n : ℕ) where
   pub ranged-low : least < n → ranged least most true n ≡ OutOfRange
   unfolding ranged
   ranged-low h = rw (lt-leb n least h)
 
-  pub ranged-neg : n ≤ least → ranged least most true n ≡ Value (negated n)
-  unfolding ranged
-  ranged-neg h = rw (le-leb n least h)
-
   pub ranged-high : most < n → ranged least most false n ≡ OutOfRange
   unfolding ranged
   ranged-high h = rw (lt-leb n most h)
-
-  pub ranged-pos : n ≤ most → ranged least most false n ≡ Value n
-  unfolding ranged
-  ranged-pos h = rw (le-leb n most h)

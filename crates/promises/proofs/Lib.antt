@@ -7,3 +7,4 @@ pub mod Demand3
 -- The demands, shown.
 pub mod ListingRound
 pub mod Listing
+pub mod Image

@@ -1,11 +1,12 @@
 -- The laws of a loop that fills a slice from its first place on. Assumes nothing.
-use Prim.Native.Nat.{ℕ, zero, suc, _+_, _≤_, _<_, zero-le}
+use Prim.Native.Nat.{ℕ, _+_, _≤_, _<_, zero-le}
 use mathlib.Core.Path.{_≡_, refl, sym, ap₂, _∙_}
 use mathlib.Core.List.{List, [], _∷_, _++_}
 use native.Mathlib.Numerals.{add-one}
 use native.Mathlib.Omega.{arith}
 use lib.ListN.{length, getD, take, set, replicate, length-set, length-replicate}
 use lib.Seq.{take-suc-set, take-suc, take-all}
+use Rattle.rules.proofs.Sound.{zeros-at}
 
 -- l, as long as l₀, is g in its first i places
 pub record Filled (l₀ l g : List ℕ) (i : ℕ) : Type 0 where
@@ -33,15 +34,10 @@ filled-all {l₀} {l} {g} {i} F h e = sym (take-all i l h) ∙ F .same ∙ take-
 
 -- ---- filling with zeros
 
-pub getD-zeros : (n i : ℕ) → _≡_ {A = ℕ} (getD (replicate n 0) i 0) 0
-getD-zeros zero i = refl
-getD-zeros (suc n) zero = refl
-getD-zeros (suc n) (suc i) = getD-zeros n i
-
 -- the list of as many zeros as l₀ is long
 module _ (l₀ l : List ℕ) (i : ℕ) (F : Filled l₀ l (replicate (length l₀) 0) i) where
   pub zeros-more : i < length l → Filled l₀ (set l i 0) (replicate (length l₀) 0) (i + 1)
-  zeros-more h = filled-more F h (length-replicate (length l₀) 0) (sym (getD-zeros (length l₀) i))
+  zeros-more h = filled-more F h (length-replicate (length l₀) 0) (sym (zeros-at (length l₀) i))
 
   pub zeros-all : length l ≤ i → l ≡ replicate (length l₀) 0
   zeros-all h = filled-all F h (length-replicate (length l₀) 0)

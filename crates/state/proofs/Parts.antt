@@ -4,12 +4,14 @@ use mathlib.Core.Path.{_≡_, refl, sym, ap, ap₂, _∙_}
 use mathlib.Core.Bool.{Bool, true, false, _&&_, and-true, and-assoc}
 use mathlib.Core.List.{List}
 use lib.ListN.{length, getD, drop, drop-of-length-le}
-use borrow.Author.Tests.{leb-true, eqb-true}
+use borrow.Author.Tests.{eqb-true}
 use Rattle.rules.specs.Lists.{every}
 use Rattle.rules.specs.Table.{Program, soundTable}
-use Rattle.rules.specs.State.{Memory, soundCell, soundCells, stateTests, sound}
+use Rattle.rules.specs.State.{Memory, soundCell, soundCells, sound}
 use Rattle.rules.specs.declared.Registers.{Registers}
 use Rattle.rules.proofs.Tests.{every-at, drop-next}
+use Rattle.rules.proofs.Fair.{Sound}
+use Rattle.rules.proofs.Effects.{sound-facts}
 use Rattle.state.proofs.Chain.{and-then}
 use Rattle.state.specs.Parts.{keptSizes, registersWithin, Held}
 
@@ -36,16 +38,9 @@ module _ (p : Program) (r : Registers) (m : Memory) where
 
   -- what a sound state gives
   pub held : sound p r m ≡ true → Held r m
-  unfolding sound
   held h =
-      record {
-        cells = eqb-true _ _ (every-at (stateTests p r m) 4 h);
-        tagged = eqb-true _ _ (every-at (stateTests p r m) 5 h);
-        places = eqb-true _ _ (every-at (stateTests p r m) 6 h);
-        few = leb-true _ _ (every-at (stateTests p r m) 2 h);
-        short = leb-true _ _ (every-at (stateTests p r m) 3 h);
-        used = leb-true _ _ (every-at (stateTests p r m) 11 h);
-      }
+      let s : Sound p r m = sound-facts p r m h in
+      record { cells = s .bits; tagged = s .tags; places = s .history; used = s .used }
 
   -- the early returns of the judgement, and its end
   module _ (made : soundTable p ≡ true) where

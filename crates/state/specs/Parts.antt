@@ -1,9 +1,9 @@
 -- Two parts of a state's tests, and the tests of a reset by lengths: what one function of this crate judges each. Assumes nothing.
-use Prim.Native.Nat.{ℕ, _≤_, _<_}
+use Prim.Native.Nat.{ℕ, _≤_}
 use mathlib.Core.Path.{_≡_}
 use mathlib.Core.Bool.{Bool}
 use mathlib.Core.List.{List, [], _∷_}
-use lib.ListN.{length, getD}
+use lib.ListN.{length}
 use lib.Dec.{leb, ltb, eqb}
 use Rattle.rules.specs.Sizes.{maxCells, maxHistory}
 use Rattle.rules.specs.State.{Memory}
@@ -34,6 +34,4 @@ pub record Held (r : Registers) (m : Memory) : Type 0 where
   pub cells : length (m .bits) ≡ r .n
   pub tagged : length (m .tags) ≡ r .n
   pub places : length (m .history) ≡ r .h
-  pub few : r .n ≤ maxCells
-  pub short : r .h ≤ maxHistory
   pub used : r .used ≤ r .h

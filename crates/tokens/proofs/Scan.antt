@@ -1,45 +1,17 @@
--- Laws of `tokens` at an offset of a source: what stands there decides where the tokens go on.
--- Assumes nothing.
+-- Laws of the tokens from a place of a source on: what stands there decides where they go on. Assumes nothing.
 use mathlib.Core.Path.{_≡_, refl, ap, sym, _∙_}
-use mathlib.Core.Bool.{Bool, true, false, not, _&&_, _||_, true≢false}
+use mathlib.Core.Bool.{Bool, true, false, _||_, true≢false}
 use lib.Dec.{ltb, eqb}
 use borrow.Author.Tests.{ltb-true, ltb-false, eq-eqb, ne-eqb}
-use mathlib.Core.List.{List, [], _∷_, _++_}
+use mathlib.Core.List.{List, [], _∷_}
 use Prim.Native.Nat.{ℕ, suc, _+_, _-_, _≤_, _<_}
 use native.Mathlib.Omega.{arith}
 use lib.ListN.{length, drop, getD, drop-of-length-le}
-use Rattle.rules.proofs.Tests.{drop-next, and-left, and-right}
+use Rattle.rules.proofs.Tests.{drop-next}
+use Rattle.rules.proofs.Tokens.{tokens-blank, tokens-comment, tokens-last, tokens-more}
 use Rattle.rules.specs.Bytes.{blank}
-use Rattle.rules.specs.Tokens.{Token, opens, stops, last, extend, tokens, comment}
+use Rattle.rules.specs.Tokens.{opens, stops, last, extend, tokens, comment}
 use Rattle.tokens.specs.Next.{from, inside, between, Ended}
-
-or-true : (a : Bool) → (a || true) ≡ true
-or-true true = refl
-or-true false = refl
-
-or-left : (a b : Bool) → (a || b) ≡ false → a ≡ false
-or-left false b h = refl
-or-left true b h = h
-
-or-right : (a b : Bool) → (a || b) ≡ false → b ≡ false
-or-right false b h = h
-or-right true b h = absurd (true≢false h)
-
-pub tokens-blank : (at b : ℕ) (s : List ℕ) → blank b ≡ true → tokens at (b ∷ s) ≡ tokens (at + 1) s
-unfolding tokens
-tokens-blank at b s h = rw h
-
-pub tokens-comment : (at b : ℕ) (s : List ℕ) → blank b ≡ false → opens (b ∷ s) ≡ true → tokens at (b ∷ s) ≡ comment (at + 1) s
-unfolding tokens
-tokens-comment at b s h k = rw (h, k)
-
-pub tokens-last : (at b : ℕ) (s : List ℕ) → stops (b ∷ s) ≡ false → last b s ≡ true → tokens at (b ∷ s) ≡ record { at = at; text = b ∷ [] } ∷ tokens (at + 1) s
-unfolding tokens stops
-tokens-last at b s h k = rw (or-left (blank b) (opens (b ∷ s)) h, or-right (blank b) (opens (b ∷ s)) h, k)
-
-pub tokens-more : (at b : ℕ) (s : List ℕ) → stops (b ∷ s) ≡ false → last b s ≡ false → tokens at (b ∷ s) ≡ extend at b (tokens (at + 1) s)
-unfolding tokens stops
-tokens-more at b s h k = rw (or-left (blank b) (opens (b ∷ s)) h, or-right (blank b) (opens (b ∷ s)) h, k)
 
 module _ (src : List ℕ) (i : ℕ) where
   pub from-end : length src ≤ i → from src i ≡ []
@@ -149,65 +121,3 @@ stops-in src i h = go (ltb i (length src)) refl
     go : (b : Bool) → ltb i (length src) ≡ b → i < length src
     go true e = ltb-true i (length src) e
     go false e = absurd (true≢false (sym (stops-end src i (ltb-false i (length src) e)) ∙ h))
-
--- a byte of a token that neither ends it nor can open a comment
-unfoldable pub plain : ℕ → Bool
-plain b = not (blank b || eqb b 47 || eqb b 58)
-
-unfoldable pub allPlain : List ℕ → Bool
-allPlain [] = true
-allPlain (b ∷ s) = plain b && allPlain s
-
-not-or : (a b c : Bool) → not (a || b || c) ≡ true → (a ≡ false) × (b ≡ false) × (c ≡ false)
-not-or true b c h = (cc h, cc h, cc h)
-not-or false true c h = (cc h, cc h, cc h)
-not-or false false true h = (cc h, cc h, cc h)
-not-or false false false h = (refl, refl, refl)
-
-plain-parts : (b : ℕ) → plain b ≡ true → (blank b ≡ false) × (eqb b 47 ≡ false) × (eqb b 58 ≡ false)
-unfolding plain
-plain-parts b h = not-or (blank b) (eqb b 47) (eqb b 58) h
-
-plain-stops : (b : ℕ) (s : List ℕ) → plain b ≡ true → stops (b ∷ s) ≡ false
-unfolding stops opens
-plain-stops b [] h = rw (plain-parts b h .0)
-plain-stops b (a ∷ s) h = rw (plain-parts b h .0, plain-parts b h .1)
-
-last-stop : (b : ℕ) (s : List ℕ) → stops s ≡ true → last b s ≡ true
-unfolding last
-last-stop b s h = rw h (or-true (eqb b 58))
-
-last-go : (b a : ℕ) (s : List ℕ) → plain b ≡ true → plain a ≡ true → last b (a ∷ s) ≡ false
-unfolding last
-last-go b a s h k = rw (plain-parts b h .2, plain-stops a s k)
-
-extend-word : (at n b : ℕ) (w : List ℕ) (ts : List Token) → extend at b (record { at = n; text = w } ∷ ts) ≡ record { at = at; text = b ∷ w } ∷ ts
-unfolding extend
-extend-word at n b w ts = refl
-
--- plain bytes before what ends a token are one token
-pub tokens-word : (at b : ℕ) (w rest : List ℕ) → allPlain (b ∷ w) ≡ true → stops rest ≡ true → tokens at (b ∷ (w ++ rest)) ≡ record { at = at; text = b ∷ w } ∷ tokens (at + length (b ∷ w)) rest
-unfolding allPlain
-tokens-word at b [] rest h k =
-    let p = and-left (plain b) true h in
-    tokens-last at b rest (plain-stops b rest p) (last-stop b rest k)
-tokens-word at b (a ∷ w) rest h k =
-    let p = and-left (plain b) (allPlain (a ∷ w)) h in
-    let r = and-right (plain b) (allPlain (a ∷ w)) h in
-    let q = and-left (plain a) (allPlain w) r in
-    let e : at + 1 + length (a ∷ w) ≡ at + length (b ∷ a ∷ w) = omega arith in
-    tokens-more at b (a ∷ (w ++ rest)) (plain-stops b (a ∷ (w ++ rest)) p) (last-go b a (w ++ rest) p q)
-    ∙ ap (extend at b) (tokens-word (at + 1) a w rest r k)
-    ∙ extend-word at (at + 1) b (a ∷ w) (tokens (at + 1 + length (a ∷ w)) rest)
-    ∙ ap (λ (n : ℕ). record { at = at; text = b ∷ a ∷ w } ∷ tokens n rest) e
-
--- a line of a listing: a name, a space, an operand, a LF
-pub tokens-line : (at b d : ℕ) (w v rest : List ℕ) → allPlain (b ∷ w) ≡ true → allPlain (d ∷ v) ≡ true → tokens at (b ∷ (w ++ 32 ∷ d ∷ (v ++ 10 ∷ rest))) ≡ record { at = at; text = b ∷ w } ∷ record { at = at + length (b ∷ w) + 1; text = d ∷ v } ∷ tokens (at + length (b ∷ w) + 1 + length (d ∷ v) + 1) rest
-unfolding stops blank
-tokens-line at b d w v rest h k =
-    tokens-word at b w (32 ∷ d ∷ (v ++ 10 ∷ rest)) h refl
-    ∙ ap (λ (ts : List Token). record { at = at; text = b ∷ w } ∷ ts)
-    (tokens-blank (at + length (b ∷ w)) 32 (d ∷ (v ++ 10 ∷ rest)) refl
-    ∙ tokens-word (at + length (b ∷ w) + 1) d v (10 ∷ rest) k refl
-    ∙ ap (λ (ts : List Token). record { at = at + length (b ∷ w) + 1; text = d ∷ v } ∷ ts)
-    (tokens-blank (at + length (b ∷ w) + 1 + length (d ∷ v)) 10 rest refl))

@@ -1,4 +1,5 @@
 -- `operands::digit_of` meets its contract. Assumes nothing.
+use Rattle.rules.proofs.Operands.{digit-09}
 use Rattle.operands.proofs.Laws as law
 use mathlib.Core.Path.{sym}
 use native.Mathlib.Omega.{arith}
@@ -10,7 +11,7 @@ returns : tie.Need-returns
 returns c = (sym (law.digit-none (c .before .args .b) (omega arith)), omega arith)
 
 returns-2 : tie.Need-returns-2
-returns-2 c = (sym (law.digit-09 (c .before .before .args .b) (omega arith) (omega arith)), omega arith)
+returns-2 c = (sym (digit-09 (c .before .before .args .b) (omega arith) (omega arith)), omega arith)
 
 returns-3 : tie.Need-returns-3
 returns-3 c = (sym (law.digit-none-2 (c .before .before .before .args .b) (omega arith) (omega arith)), omega arith)

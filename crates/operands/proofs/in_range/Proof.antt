@@ -1,6 +1,7 @@
 -- `operands::in_range` meets its contract. Assumes nothing.
 use native.Mathlib.Omega.{arith}
 use Rattle.rules.specs.Operands.{negated}
+use Rattle.rules.proofs.Operands.{ranged-least, ranged-most}
 use Rattle.operands.proofs.Laws as law
 use borrow.Author.Needs.{needs}
 use Rattle.operands.proofs.in_range.Statement.{statement}
@@ -23,7 +24,7 @@ unfolding negated
 returns-2 c =
     let a = c .before .before .args in
     let e = c .before .if1 .taken in
-    cc (law.ranged-neg (a .least) (a .most) (a .n) (omega arith))
+    cc (ranged-least (a .least) (a .most) (a .n) (omega arith))
 
 returns-3 : tie.Need-returns-3
 returns-3 c =
@@ -38,7 +39,7 @@ returns-4 : tie.Need-returns-4
 returns-4 c =
     let a = c .before .before .args in
     let e = c .before .if1 .left in
-    cc (law.ranged-pos (a .least) (a .most) (a .n) (omega arith))
+    cc (ranged-most (a .least) (a .most) (a .n) (omega arith))
 
 pub in-range-spec : {M : Type 1} → statement M
 in-range-spec = tie.close (tie.spec returns sub-t6 cast-t9 returns-2 returns-3 cast-t11 returns-4)

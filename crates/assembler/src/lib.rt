@@ -1,0 +1,79 @@
+// The assembler: from a source to a table of 1,024 places. The first pass judges the tokens from the left and keeps an item in the table for
+// each instruction; the second settles the targets in program order. The labels are one local of `assemble`, lent to both.
+
+use rules::Assembled;
+use rules::TextRefusal;
+
+mod classes;
+mod held;
+mod judge;
+mod operand;
+mod search;
+mod targets;
+
+ghost use mathlib.Core.Path.{_≡_};
+ghost use mathlib.Core.List.{_++_};
+ghost use Prim.Native.Nat.{_-_, _≤_};
+ghost use lib.ListN.{length, take, replicate};
+ghost use Rattle.rules.specs.Sizes.{maxSource, maxProgram, maxLabels};
+ghost use Rattle.rules.specs.Assemble.{translated, assemble};
+ghost use Rattle.assembler.specs.Held.{OutcomeIs, usedBy};
+
+// Both passes, with the labels lent: the table's first places hold the program, where there is one.
+fn assemble_with(src: &[u8], table: &mut [u64], labels: &mut [u64]) -> Assembled
+    requires { ⌜ (length (now table) ≡ maxProgram) × ((length (now labels) ≡ maxLabels) × (length (now src) ≤ maxSource)) ⌝ }
+    ensures { λ r. ⌜ OutcomeIs (now (table .exit)) (translated (now (src .entry))) r ⌝ }
+{
+    let verdict = judge::judge_all(src, table, labels);
+    match verdict {
+        held::Verdict::Stop(e, at) => Assembled::Fault(e, at),
+        held::Verdict::Go(s) => {
+            let n = s.n;
+            let m = s.m;
+            let wait = s.wait;
+            if wait < 50 {
+                return Assembled::Fault(TextRefusal::BadOperand, src.len());
+            }
+            targets::settle_all(src, table, labels, n, m)
+        }
+    }
+}
+
+// Zeros from `first` on.
+fn clear_from(table: &mut [u64], first: usize)
+    requires { ⌜ first ≤ length (now table) ⌝ }
+    ensures { λ r. ⌜ now (table .exit) ≡ take first (now (table .entry)) ++ replicate (length (now (table .entry)) - first) 0 ⌝ }
+{
+    let mut i = first;
+    while i < table.len() {
+        table[i] = 0;
+        i += 1;
+    }
+}
+
+// The places that an answer keeps.
+fn used(a: Assembled) -> usize
+    ensures { λ r. ⌜ r ≡ usedBy a ⌝ }
+{
+    match a {
+        Assembled::Made(n) => n,
+        Assembled::Fault(_, _) => 0,
+    }
+}
+
+// Assembles a source into a table: the number of instructions, or the first fault and its place.
+pub fn assemble(source: &[u8], table: &mut [u64]) -> Assembled
+    ensures { λ r. ⌜ (r ≡ assemble (now (source .entry)) (now (table .entry)) .answer) × (now (table .exit) ≡ assemble (now (source .entry)) (now (table .entry)) .table) ⌝ }
+{
+    if table.len() != 1024 {
+        return Assembled::Fault(TextRefusal::WrongLength, 0);
+    }
+    if source.len() > 65536 {
+        clear_from(table, 0);
+        return Assembled::Fault(TextRefusal::SourceTooLong, 0);
+    }
+    let mut labels = [0u64; 256];
+    let answer = assemble_with(source, table, &mut labels);
+    clear_from(table, used(answer));
+    answer
+}

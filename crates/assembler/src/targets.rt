@@ -1,0 +1,65 @@
+// The second pass: each item becomes the table's place, in program order, until a target is at fault.
+use crate::held::Settled;
+use crate::held::Sought;
+use crate::search;
+use rules::Assembled;
+use rules::TextRefusal;
+ghost use mathlib.Core.Path.{_≡_};
+ghost use Prim.Native.Nat.{_≤_};
+ghost use lib.ListN.{length};
+ghost use Rattle.rules.specs.Sizes.{maxProgram};
+ghost use Rattle.rules.specs.Assemble.{settle};
+ghost use Rattle.assembler.specs.Held.{itemsOf, labelsOf, SettledIs, OutcomeIs};
+
+// One item, in a program of n instructions and m labels.
+fn settle_item(src: &[u8], labels: &[u64], n: usize, m: usize, w: u64) -> Settled
+    requires { ⌜ (m ≤ length (now labels)) × (n ≤ maxProgram) ⌝ }
+    ensures { λ r. ⌜ SettledIs (now (src .entry)) n (labelsOf (now (src .entry)) (now (labels .entry)) m) w r ⌝ }
+{
+    let kind = w / 1152921504606846976;
+    let start = (w / 1099511627776 % 1048576) as usize;
+    let code = w / 4294967296 % 256 * 4294967296;
+    let low = w % 4294967296;
+    if kind == 0 {
+        return Settled::Full(w);
+    }
+    if kind == 1 {
+        if low <= n as u64 {
+            return Settled::Full(code + low);
+        }
+        return Settled::No(TextRefusal::OperandRange, start);
+    }
+    if kind != 2 {
+        return Settled::No(TextRefusal::OperandRange, start);
+    }
+    let sought = search::find_label(src, labels, m, search::piece_of(src, start, low as usize));
+    match sought {
+        Sought::At(address) => Settled::Full(code + address),
+        Sought::Nowhere => Settled::No(TextRefusal::LabelUnknown, start),
+    }
+}
+
+// All items, in program order.
+pub(crate) fn settle_all(
+    src: &[u8],
+    table: &mut [u64],
+    labels: &[u64],
+    n: usize,
+    m: usize,
+) -> Assembled
+    requires { ⌜ (length (now table) ≡ maxProgram) × ((m ≤ length (now labels)) × (n ≤ maxProgram)) ⌝ }
+    ensures { λ r. ⌜ OutcomeIs (now (table .exit)) (settle n (labelsOf (now (src .entry)) (now (labels .entry)) m) (itemsOf (now (src .entry)) (now (table .entry)) n)) r ⌝ }
+{
+    let mut i = 0;
+    while i < n {
+        let settled = settle_item(src, labels, n, m, table[i]);
+        match settled {
+            Settled::No(e, at) => return Assembled::Fault(e, at),
+            Settled::Full(w) => {
+                table[i] = w;
+                i += 1;
+            }
+        }
+    }
+    Assembled::Made(n)
+}

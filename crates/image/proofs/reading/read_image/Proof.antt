@@ -1,0 +1,204 @@
+-- The loop's invariant: the first i places stand in the table, zeros after them, and what is left from bit `at` decides. Assumes nothing.
+use Prim.Native.Nat.{ℕ, _+_, _-_, _*_, _≤_, _<_}
+use mathlib.Core.Path.{_≡_, sym, ap, ap₂, _∙_, subst}
+use mathlib.Core.List.{List, []}
+use native.Mathlib.Nat.{sub-zero}
+use native.Mathlib.Omega.{arith}
+use borrow.Author.Needs.{needs}
+use borrow.Author.Tests.{leb-true, leb-false, not-true, not-false}
+use denote.Ref.{now}
+use lib.ListN.{length, take, drop, replicate, length-set}
+use Rattle.rules.specs.Sizes.{maxProgram}
+use Rattle.rules.specs.Fields.{bitsOf}
+use Rattle.rules.specs.Image.{bitsTaken, prepend, unpackFrom, unpacked}
+use Rattle.rules.specs.declared.ImageRefusal.the-variants.{EndsEarly, CountTooHigh, BadPadding}
+use Rattle.rules.proofs.Fields.{bitsOf-length}
+use Rattle.rules.proofs.Unpacking.{unpacked-short, unpacked-count, unpacked-from, unfit-filed, prepend-none, turn-unfit, turn-place, turn-rest, end-unfit, end-filed}
+use Rattle.image.proofs.reading.read_image.Statement.{statement}
+use Rattle.image.proofs.reading.read_image.Tie as tie
+
+abbrev Inv-loop : tie.InvT-loop
+Inv-loop image table₀ count at₀ i₀ table at i =
+    (i ≤ count) × (count ≤ maxProgram) × (length table ≡ maxProgram) × (at ≤ 11 + 38 * i) × (at ≤ length image * 8)
+    × (unpacked image ≡ prepend (take i table) (unpackFrom count (count - i) (drop at (bitsOf image))))
+    × (drop i table ≡ replicate (maxProgram - i) 0)
+
+abbrev μ-loop : tie.MeasureT-loop
+μ-loop image table₀ count at₀ i₀ table at i = count - i
+
+clear-places-requires : tie.Need-clear-places-requires Inv-loop μ-loop
+clear-places-requires c κs = search needs
+
+has-bits-requires : tie.Need-has-bits-requires Inv-loop μ-loop
+has-bits-requires c κs = omega arith
+
+same-length : tie.Need-same-length Inv-loop μ-loop
+same-length c = c .before .before .before .before .clear-places .kept .0
+
+returns : tie.Need-returns Inv-loop μ-loop
+returns c =
+    let a = c .before .before .before .before .before .before .before .before .args in
+    let h : length (now (a .image)) * 8 < 11 = leb-false _ _ (sym (c .before .has-bits .ensures) ∙ not-true _ (c .if1 .taken)) in
+    unfit-filed (now (a .image)) EndsEarly _ (unpacked-short (now (a .image)) (omega (arith, bitsOf-length (now (a .image)))))
+    (c .before .before .before .before .clear-places .ensures ∙ ap (λ (k : ℕ). replicate k 0) (c .before .before .before .before .before .before .before .before .pre))
+
+get-requires : tie.Need-get-requires Inv-loop μ-loop
+get-requires c κs =
+    let a = c .before .before .before .before .before .before .before .before .args in
+    let h : 11 ≤ length (now (a .image)) * 8 = leb-true _ _ (sym (c .before .has-bits .ensures) ∙ not-false _ (c .if1 .left)) in
+    omega arith
+
+cast-count : tie.Need-cast-count Inv-loop μ-loop
+cast-count c = search needs
+
+same-length-2 : tie.Need-same-length-2 Inv-loop μ-loop
+same-length-2 c = c .before .before .before .before .before .before .clear-places .kept .0
+
+returns-2 : tie.Need-returns-2 Inv-loop μ-loop
+returns-2 c =
+    let a = c .before .before .before .before .before .before .before .before .before .before .args in
+    let h : 11 ≤ length (now (a .image)) * 8 = leb-true _ _ (sym (c .before .before .before .has-bits .ensures) ∙ not-false _ (c .before .before .if1 .left)) in
+    unfit-filed (now (a .image)) CountTooHigh _
+    (unpacked-count (now (a .image)) (c .before .get .result) (omega (arith, bitsOf-length (now (a .image)))) (c .before .get .ensures .0) (c .if2 .taken))
+    (c .before .before .before .before .before .before .clear-places .ensures ∙ ap (λ (k : ℕ). replicate k 0) (c .before .before .before .before .before .before .before .before .before .before .pre))
+
+loop-holds : tie.Need-loop-holds Inv-loop μ-loop
+loop-holds c =
+    let a = c .before .before .before .before .before .before .before .before .before .before .args in
+    let h : 11 ≤ length (now (a .image)) * 8 = leb-true _ _ (sym (c .before .before .before .has-bits .ensures) ∙ not-false _ (c .before .before .if1 .left)) in
+    let n = c .before .get .result in (
+      omega arith,
+      omega arith,
+      c .before .before .before .before .before .before .clear-places .kept .0 ∙ c .before .before .before .before .before .before .before .before .before .before .pre,
+      omega arith,
+      omega arith,
+      unpacked-from (now (a .image)) n (omega (arith, bitsOf-length (now (a .image)))) (c .before .get .ensures .0) (c .if2 .left)
+          ∙ sym (prepend-none _) ∙ ap (λ (k : ℕ). prepend [] (unpackFrom n k (drop 11 (bitsOf (now (a .image)))))) (sym (sub-zero n)),
+      c .before .before .before .before .before .before .clear-places .ensures ∙ ap (λ (k : ℕ). replicate k 0) (c .before .before .before .before .before .before .before .before .before .before .pre),
+    )
+
+take-instruction-requires : tie.Need-take-instruction-requires Inv-loop μ-loop
+take-instruction-requires c κs = omega arith
+
+enum-known-place : tie.Need-enum-known-place Inv-loop μ-loop
+enum-known-place c = search needs
+
+mul-table : tie.Need-mul-table Inv-loop μ-loop
+mul-table c = omega arith
+
+slice-write-table : tie.Need-slice-write-table Inv-loop μ-loop
+slice-write-table c = omega arith
+
+add-at : tie.Need-add-at Inv-loop μ-loop
+add-at c = omega (arith, ap bitsTaken (c .before .place .given .1), c .before .before .before .take-instruction .ensures .1)
+
+add-i : tie.Need-add-i Inv-loop μ-loop
+add-i c = omega arith
+
+loop-less : tie.Need-loop-less Inv-loop μ-loop
+loop-less c = omega arith
+
+loop-again : tie.Need-loop-again Inv-loop μ-loop
+loop-again c =
+    let a = c .before .before .before .before .before .before .before .before .before .before .before .before .before .before .before .before .args in
+    let t = c .before .before .before .before .before .loop in
+    let n = c .before .before .before .before .before .before .before .get .result in
+    let p = c .before .place .given .0 .0 in
+    let taken = c .before .place .given .0 .1 .0 in
+    let e : bitsTaken (c .before .before .before .take-instruction .result) ≡ taken = ap bitsTaken (c .before .place .given .1) in
+    let r = sym (c .before .before .before .take-instruction .ensures .0) ∙ c .before .place .given .1 in (
+      omega arith,
+      t .inv .1,
+      length-set (t .table) (t .i) p ∙ t .inv .2,
+      omega (arith, c .before .before .before .take-instruction .ensures .1 .0),
+      omega (arith, c .before .before .before .take-instruction .ensures .1 .1),
+      turn-place (unpacked (now (a .image))) n (t .i) (t .at) (t .table) (bitsOf (now (a .image))) (c .before .before .before .before .loop-test .taken) (t .inv .5) p taken (omega arith) r,
+      turn-rest (t .table) (t .i) p (omega arith) (t .inv .6),
+    )
+
+enum-known-refusal : tie.Need-enum-known-refusal Inv-loop μ-loop
+enum-known-refusal c = search needs
+
+clear-places-requires-2 : tie.Need-clear-places-requires-2 Inv-loop μ-loop
+clear-places-requires-2 c κs = search needs
+
+same-length-3 : tie.Need-same-length-3 Inv-loop μ-loop
+same-length-3 c = c .before .before .clear-places2 .kept .0 ∙ c .before .before .before .before .before .before .before .before .before .loop .inv .2 ∙ sym (c .before .before .before .before .before .before .before .before .before .before .before .before .before .before .before .before .before .before .before .before .pre)
+
+returns-3 : tie.Need-returns-3 Inv-loop μ-loop
+returns-3 c =
+    let a = c .before .before .before .before .before .before .before .before .before .before .before .before .before .before .before .before .before .before .before .before .args in
+    let t = c .before .before .before .before .before .before .before .before .before .loop in
+    let k = c .before .before .before .before .before .refusal .given .0 .0 in
+    let r = sym (c .before .before .before .before .before .before .before .take-instruction .ensures .0) ∙ c .before .before .before .before .before .refusal .given .1 in
+    unfit-filed (now (a .image)) k _
+    (turn-unfit (unpacked (now (a .image))) (c .before .before .before .before .before .before .before .before .before .before .before .get .result) (t .i) (t .at) (t .table) (bitsOf (now (a .image))) (c .before .before .before .before .before .before .before .before .loop-test .taken) (t .inv .5) k r)
+    (c .before .before .clear-places2 .ensures ∙ ap (λ (m : ℕ). replicate m 0) (t .inv .2))
+
+is-padded-requires : tie.Need-is-padded-requires Inv-loop μ-loop
+is-padded-requires c κs = omega arith
+
+same-length-4 : tie.Need-same-length-4 Inv-loop μ-loop
+same-length-4 c = c .before .before .before .loop .inv .2 ∙ sym (c .before .before .before .before .before .before .before .before .before .before .before .before .before .before .pre)
+
+returns-4 : tie.Need-returns-4 Inv-loop μ-loop
+returns-4 c =
+    let a = c .before .before .before .before .before .before .before .before .before .before .before .before .before .before .args in
+    let t = c .before .before .before .loop in
+    let n = c .before .before .before .before .before .get .result in
+    let ei : t .i ≡ n = omega arith in
+    let ez : n - t .i ≡ 0 = omega arith in
+    let e = t .inv .5 ∙ ap₂ (λ (x y : ℕ). prepend (take x (t .table)) (unpackFrom n y (drop (t .at) (bitsOf (now (a .image)))))) ei ez in
+    end-filed (now (a .image)) (t .table) n (t .at) e (sym (c .before .is-padded .ensures) ∙ c .if3 .taken) (t .inv .1) (t .inv .2)
+    (subst (λ (x : ℕ). drop x (t .table) ≡ replicate (maxProgram - x) 0) ei (t .inv .6))
+
+clear-places-requires-3 : tie.Need-clear-places-requires-3 Inv-loop μ-loop
+clear-places-requires-3 c κs = search needs
+
+same-length-5 : tie.Need-same-length-5 Inv-loop μ-loop
+same-length-5 c = c .before .before .clear-places3 .kept .0 ∙ c .before .before .before .before .before .before .before .loop .inv .2 ∙ sym (c .before .before .before .before .before .before .before .before .before .before .before .before .before .before .before .before .before .before .pre)
+
+returns-5 : tie.Need-returns-5 Inv-loop μ-loop
+returns-5 c =
+    let a = c .before .before .before .before .before .before .before .before .before .before .before .before .before .before .before .before .before .before .args in
+    let t = c .before .before .before .before .before .before .before .loop in
+    let n = c .before .before .before .before .before .before .before .before .before .get .result in
+    let ei : t .i ≡ n = omega arith in
+    let ez : n - t .i ≡ 0 = omega arith in
+    let e = t .inv .5 ∙ ap₂ (λ (x y : ℕ). prepend (take x (t .table)) (unpackFrom n y (drop (t .at) (bitsOf (now (a .image)))))) ei ez in
+    unfit-filed (now (a .image)) BadPadding _ (end-unfit (now (a .image)) (t .table) n (t .at) e (sym (c .before .before .before .before .before .is-padded .ensures) ∙ c .before .before .before .before .if3 .left))
+    (c .before .before .clear-places3 .ensures ∙ ap (λ (m : ℕ). replicate m 0) (t .inv .2))
+
+pub read-image-spec : {M : Type 1} → statement M
+read-image-spec =
+    tie.close
+    (tie.spec
+    Inv-loop
+    μ-loop
+    clear-places-requires
+    has-bits-requires
+    same-length
+    returns
+    get-requires
+    cast-count
+    same-length-2
+    returns-2
+    loop-holds
+    take-instruction-requires
+    enum-known-place
+    mul-table
+    slice-write-table
+    add-at
+    add-i
+    loop-less
+    loop-again
+    enum-known-refusal
+    clear-places-requires-2
+    same-length-3
+    returns-3
+    is-padded-requires
+    same-length-4
+    returns-4
+    clear-places-requires-3
+    same-length-5
+    returns-5)

@@ -1,0 +1,37 @@
+// An operand in an image: its width, and the 32 bits that it has in a table.
+use rules::Kind;
+ghost use mathlib.Core.Path.{_≡_};
+ghost use Prim.Native.Nat.{_^_, _<_};
+ghost use Rattle.rules.specs.Image.{widthOf, extended};
+
+// The bits of an operand of the kind.
+pub(crate) fn width_of(kind: Kind) -> usize
+    ensures { λ r. ⌜ r ≡ widthOf kind ⌝ }
+{
+    match kind {
+        Kind::Bare => 0,
+        Kind::Immediate => 32,
+        Kind::Pattern => 32,
+        Kind::Offset => 11,
+        Kind::Target => 11,
+    }
+}
+
+// The 32 bits in a table of an operand that an image has as the number v: an offset's sign goes on to the left.
+pub(crate) fn table_bits(kind: Kind, v: u32) -> u32
+    requires { ⌜ v < 2 ^ widthOf kind ⌝ }
+    ensures { λ r. ⌜ r ≡ extended kind v ⌝ }
+{
+    match kind {
+        Kind::Bare => v,
+        Kind::Immediate => v,
+        Kind::Pattern => v,
+        Kind::Offset => {
+            if v < 1024 {
+                return v;
+            }
+            v + 4294965248
+        }
+        Kind::Target => v,
+    }
+}

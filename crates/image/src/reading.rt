@@ -1,0 +1,118 @@
+// The unpacker's part that reads, from left to right.
+use crate::fields::get;
+use crate::operands::table_bits;
+use crate::operands::width_of;
+use program::kinds::is_within;
+use program::kinds::kind_of;
+use rules::ImageRefusal;
+use rules::Packed;
+use rules::Taken;
+ghost use mathlib.Core.Path.{_≡_};
+ghost use Prim.Native.Nat.{_+_, _*_, _<_, _≤_};
+ghost use lib.Dec.{leb};
+ghost use lib.ListN.{length, drop, replicate};
+ghost use Rattle.rules.specs.Fields.{bitsOf};
+ghost use Rattle.rules.specs.Image.{takeOperand, takeOne, bitsTaken, padded, unpacked, filed};
+
+fn clear_places(table: &mut [u64])
+    ensures { λ r. ⌜ now (table .exit) ≡ replicate (length (now (table .entry))) 0 ⌝ }
+{
+    let mut i = 0;
+    while i < table.len() {
+        table[i] = 0;
+        i += 1;
+    }
+}
+
+// Whether the image has `width` bits from bit `at`.
+fn has_bits(image: &[u8], at: usize, width: usize) -> bool
+    requires { ⌜ (at ≤ 60000) × (width ≤ 32) ⌝ }
+    ensures { λ r. ⌜ r ≡ leb (at + width) (length (now (image .entry)) * 8) ⌝ }
+{
+    if (at + width + 7) / 8 <= image.len() {
+        return true;
+    }
+    false
+}
+
+// The operand of a code, at bit `at`, in a program of `count` instructions.
+fn take_operand(image: &[u8], at: usize, count: usize, code: usize) -> Taken
+    requires { ⌜ (at ≤ 60000) × (at ≤ length (now image) * 8) × (code < 50) ⌝ }
+    ensures taken { λ r. ⌜ r ≡ takeOperand count code (drop at (bitsOf (now (image .entry)))) ⌝ }
+    ensures within { λ r. ⌜ (bitsTaken r ≤ 38) × (at + bitsTaken r ≤ length (now (image .entry)) * 8 + 6) ⌝ }
+{
+    let kind = kind_of(code);
+    let width = width_of(kind);
+    if !has_bits(image, at, width) {
+        return Taken::Unfit(ImageRefusal::EndsEarly);
+    }
+    let operand = table_bits(kind, get(image, at, width));
+    if !is_within(kind, count, operand) {
+        return Taken::Unfit(ImageRefusal::OperandOutside);
+    }
+    Taken::Place((code as u64) * 4294967296 + (operand as u64), 6 + width)
+}
+
+// The instruction at bit `at`, in a program of `count` instructions.
+fn take_instruction(image: &[u8], at: usize, count: usize) -> Taken
+    requires { ⌜ (at ≤ 50000) × (at ≤ length (now image) * 8) ⌝ }
+    ensures taken { λ r. ⌜ r ≡ takeOne count (drop at (bitsOf (now (image .entry)))) ⌝ }
+    ensures within { λ r. ⌜ (bitsTaken r ≤ 38) × (at + bitsTaken r ≤ length (now (image .entry)) * 8) ⌝ }
+{
+    if !has_bits(image, at, 6) {
+        return Taken::Unfit(ImageRefusal::EndsEarly);
+    }
+    let code = get(image, at, 6) as usize;
+    if 49 < code {
+        return Taken::Unfit(ImageRefusal::CodeTooHigh);
+    }
+    take_operand(image, at + 6, count, code)
+}
+
+// Whether what is left from bit `at` is less than a byte, and zero.
+fn is_padded(image: &[u8], at: usize) -> bool
+    requires { ⌜ (at ≤ 50000) × (at ≤ length (now image) * 8) ⌝ }
+    ensures { λ r. ⌜ r ≡ padded (drop at (bitsOf (now (image .entry)))) ⌝ }
+{
+    let bytes = (at + 7) / 8;
+    if image.len() != bytes {
+        return false;
+    }
+    get(image, at, bytes * 8 - at) == 0
+}
+
+// Unpacks into a table of 1,024 places.
+pub(crate) fn read_image(image: &[u8], table: &mut [u64]) -> Packed
+    requires { ⌜ length (now table) ≡ 1024 ⌝ }
+    ensures answer { λ r. ⌜ r ≡ filed (unpacked (now (image .entry))) .answer ⌝ }
+    ensures output { λ r. ⌜ now (table .exit) ≡ filed (unpacked (now (image .entry))) .output ⌝ }
+{
+    clear_places(table);
+    if !has_bits(image, 0, 11) {
+        return Packed::Denied(ImageRefusal::EndsEarly);
+    }
+    let count = get(image, 0, 11) as usize;
+    if 1024 < count {
+        return Packed::Denied(ImageRefusal::CountTooHigh);
+    }
+    let mut at = 11;
+    let mut i = 0;
+    while i < count {
+        match take_instruction(image, at, count) {
+            Taken::Place(place, bits) => {
+                table[i] = place;
+                at += bits;
+                i += 1;
+            }
+            Taken::Unfit(refusal) => {
+                clear_places(table);
+                return Packed::Denied(refusal);
+            }
+        }
+    }
+    if is_padded(image, at) {
+        return Packed::Length(count);
+    }
+    clear_places(table);
+    Packed::Denied(ImageRefusal::BadPadding)
+}

@@ -1,0 +1,53 @@
+// The packer's part that writes: instruction after instruction, over zeros.
+use crate::fields::put;
+use crate::operands::width_of;
+use program::kinds::kind_of;
+use program::table::code_of;
+use program::table::operand_of;
+ghost use mathlib.Core.Path.{_≡_};
+ghost use Prim.Native.Nat.{_+_, _*_, _≤_};
+ghost use lib.ListN.{length, replicate};
+ghost use Rattle.rules.specs.Lists.{splice};
+ghost use Rattle.rules.specs.Fields.{bitsOf};
+ghost use Rattle.rules.specs.Table.{program};
+ghost use Rattle.rules.specs.Sizes.{imageSize};
+ghost use Rattle.rules.specs.Image.{instructionBits, imageBits, imageLength, packedTo};
+
+pub(crate) fn clear_bytes(image: &mut [u8])
+    ensures { λ r. ⌜ now (image .exit) ≡ replicate (length (now (image .entry))) 0 ⌝ }
+{
+    let mut i = 0;
+    while i < image.len() {
+        image[i] = 0;
+        i += 1;
+    }
+}
+
+// Writes the instruction at bit `at`, and tells the bit after it.
+fn put_instruction(image: &mut [u8], at: usize, place: u64) -> usize
+    requires { ⌜ (at ≤ 60000) × (at + 38 ≤ length (now image) * 8) ⌝ }
+    ensures bits { λ r. ⌜ bitsOf (now (image .exit)) ≡ splice (bitsOf (now (image .entry))) at (instructionBits place) ⌝ }
+    ensures next { λ r. ⌜ (r ≡ at + length (instructionBits place)) × (r ≤ at + 38) ⌝ }
+{
+    let code = code_of(place);
+    let width = width_of(kind_of(code));
+    put(image, at, 6, code as u32);
+    put(image, at + 6, width, operand_of(place));
+    at + 6 + width
+}
+
+// Writes the image of the program over zeros, and tells its length in bytes.
+pub(crate) fn write_image(table: &[u64], count: usize, image: &mut [u8]) -> usize
+    requires { ⌜ (count ≤ 1024) × (count ≤ length (now table)) × (now image ≡ replicate imageSize 0) ⌝ }
+    ensures bytes { λ r. ⌜ now (image .exit) ≡ packedTo imageSize (imageBits (program (now (table .entry)) count)) ⌝ }
+    ensures told { λ r. ⌜ r ≡ imageLength (program (now (table .entry)) count) ⌝ }
+{
+    put(image, 0, 11, count as u32);
+    let mut at = 11;
+    let mut i = 0;
+    while i < count {
+        at = put_instruction(image, at, table[i]);
+        i += 1;
+    }
+    (at + 7) / 8
+}

@@ -1,0 +1,151 @@
+-- The laws of bits as a list of 0 and 1: a field of its own number, and bytes of bits and back. Assumes nothing.
+use Prim.Native.Nat.{ℕ, zero, suc, _+_, _-_, _*_, _/_, _%_, _^_, _≤_, _<_}
+use mathlib.Core.Path.{_≡_, refl, sym, ap, ap₂, _∙_, subst}
+use mathlib.Core.List.{List, [], _∷_, _++_}
+use native.Mathlib.Nat.{mod-eq-of-lt, mod-lt, zero-div, zero-mul, zero-add, sub-zero, zero-sub, suc-sub-suc, le-of-suc-le-suc, not-suc-le-zero, pow-succ'}
+use native.Mathlib.Omega.{arith}
+use lib.Arith.{digits-lt}
+use lib.ListN.{length, take, drop, getD, replicate, length-append, length-replicate, length-drop, replicate-append-replicate}
+use lib.Pow.{high}
+use lib.Seq.{take-at, drop-at, length-take-le, take-add, take-append-add}
+use Rattle.rules.specs.Lists.{splice}
+use Rattle.rules.specs.Fields.{field, value, bitsOf, bytesOf}
+use Rattle.rules.specs.Image.{packedTo}
+use Rattle.rules.proofs.Fields.{field-length, field-low, value-field}
+
+-- ---- each is 0 or 1
+
+abbrev pub Bits : List ℕ → Type 0
+Bits [] = Unit {0}
+Bits (b ∷ bs) = (b < 2) × Bits bs
+
+pub bits-append : (l m : List ℕ) → Bits l → Bits m → Bits (l ++ m)
+bits-append [] m x y = y
+bits-append (b ∷ l) m x y = (x .0, bits-append l m (x .1) y)
+
+pub bits-field : (w v : ℕ) → Bits (field w v)
+unfolding field
+bits-field zero v = tt
+bits-field (suc w) v = (mod-lt (v / 2 ^ w) (omega arith), bits-field w v)
+
+pub bits-zeros : (n : ℕ) → Bits (replicate n 0)
+bits-zeros zero = tt
+bits-zeros (suc n) = (omega arith, bits-zeros n)
+
+bits-take : (n : ℕ) (l : List ℕ) → Bits l → Bits (take n l)
+bits-take zero l x = tt
+bits-take (suc n) [] x = tt
+bits-take (suc n) (b ∷ l) x = (x .0, bits-take n l (x .1))
+
+bits-drop : (n : ℕ) (l : List ℕ) → Bits l → Bits (drop n l)
+bits-drop zero l x = x
+bits-drop (suc n) [] x = tt
+bits-drop (suc n) (b ∷ l) x = bits-drop n l (x .1)
+
+value-most : (l : List ℕ) → Bits l → value l < 2 ^ length l
+unfolding value
+value-most [] x = omega arith
+value-most (b ∷ l) x =
+    subst (λ (k : ℕ). b * 2 ^ length l + value l < k) (sym (pow-succ' 2 (length l))) (digits-lt (x .0) (value-most l (x .1)))
+
+-- bits are the field of their number
+pub field-value : (l : List ℕ) → Bits l → field (length l) (value l) ≡ l
+unfolding value field
+field-value [] x = refl
+field-value (b ∷ l) x =
+    ap₂ (λ (v : ℕ) (r : List ℕ). v ∷ r)
+    (ap (λ (v : ℕ). v % 2) (high b (length l) (value-most l (x .1))) ∙ mod-eq-of-lt (x .0))
+    (field-low (length l) b (value l) ∙ field-value l (x .1))
+
+-- ---- zeros
+
+pub value-zeros : (n : ℕ) → value (replicate n 0) ≡ 0
+unfolding value
+value-zeros zero = refl
+value-zeros (suc n) = ap₂ (λ (a b : ℕ). a + b) (zero-mul (2 ^ length (replicate {A = ℕ} n 0))) (value-zeros n)
+
+field-zero : (w : ℕ) → field w 0 ≡ replicate w 0
+unfolding field
+field-zero zero = refl
+field-zero (suc w) = ap₂ (λ (v : ℕ) (l : List ℕ). v ∷ l) (ap (λ (n : ℕ). n % 2) (zero-div (2 ^ w))) (field-zero w)
+
+bitsOf-zeros : (n : ℕ) → bitsOf (replicate n 0) ≡ replicate (n * 8) 0
+unfolding bitsOf
+bitsOf-zeros zero = refl
+bitsOf-zeros (suc n) =
+    ap₂ (λ (a b : List ℕ). a ++ b) (field-zero 8) (bitsOf-zeros n) ∙ replicate-append-replicate 8 (n * 8) 0
+    ∙ ap (λ (k : ℕ). replicate k 0) (let e : 8 + n * 8 ≡ suc n * 8 = omega arith in e)
+
+pub drop-zeros : (k n : ℕ) → drop {A = ℕ} k (replicate n 0) ≡ replicate (n - k) 0
+drop-zeros zero n = ap (λ (m : ℕ). replicate m 0) (sym (sub-zero n))
+drop-zeros (suc k) zero = ap (λ (m : ℕ). replicate m 0) (sym (zero-sub (suc k)))
+drop-zeros (suc k) (suc n) = drop-zeros k n ∙ ap (λ (m : ℕ). replicate m 0) (sym (suc-sub-suc n k))
+
+take-zeros : (k n : ℕ) → k ≤ n → take {A = ℕ} k (replicate n 0) ≡ replicate k 0
+take-zeros zero n h = refl
+take-zeros (suc k) zero h = absurd (not-suc-le-zero h)
+take-zeros (suc k) (suc n) h = ap (λ (r : List ℕ). 0 ∷ r) (take-zeros k n (le-of-suc-le-suc h))
+
+-- bits written over zeros from the start
+splice-zeros : (n : ℕ) (f : List ℕ) → splice (bitsOf (replicate n 0)) 0 f ≡ f ++ replicate (n * 8 - length f) 0
+splice-zeros n f =
+    ap (λ (l : List ℕ). f ++ drop (0 + length f) l) (bitsOf-zeros n)
+    ∙ ap (λ (k : ℕ). f ++ drop k (replicate (n * 8) 0)) (zero-add (length f))
+    ∙ ap (λ (l : List ℕ). f ++ l) (drop-zeros (length f) (n * 8))
+
+-- ---- bytes and bits
+
+-- the bytes of bytes' bits are the bytes
+bytes-back : (xs : List ℕ) → ((i : ℕ) → getD xs i 0 < 2 ^ 8) → bytesOf (length xs) (bitsOf xs) ≡ xs
+unfolding bytesOf bitsOf
+bytes-back [] h = refl
+bytes-back (x ∷ xs) h =
+    ap₂ (λ (v : ℕ) (l : List ℕ). v ∷ l)
+    (ap value (take-at (field 8 x) (bitsOf xs) 8 (field-length 8 x)) ∙ value-field 8 x ∙ mod-eq-of-lt (h 0))
+    (ap (bytesOf (length xs)) (drop-at (field 8 x) (bitsOf xs) 8 (field-length 8 x)) ∙ bytes-back xs (λ i. h (suc i)))
+
+-- the bits of bits' bytes are the bits
+bits-back : (n : ℕ) (l : List ℕ) → Bits l → n * 8 ≤ length l → bitsOf (bytesOf n l) ≡ take (n * 8) l
+unfolding bitsOf bytesOf
+bits-back zero l x h = refl
+bits-back (suc n) l x h =
+    let f : length (take 8 l) ≡ 8 = length-take-le 8 l (omega arith) in
+    let g : 8 + n * 8 ≡ suc n * 8 = omega arith in
+    ap₂ (λ (a b : List ℕ). a ++ b)
+    (ap (λ (k : ℕ). field k (value (take 8 l))) (sym f) ∙ field-value (take 8 l) (bits-take 8 l x))
+    (bits-back n (drop 8 l) (bits-drop 8 l x) (omega (arith, length-drop 8 l)))
+    ∙ sym (take-add 8 (n * 8) l) ∙ ap (λ (k : ℕ). take k l) g
+
+take-bytes : (k n : ℕ) (l : List ℕ) → k ≤ n → take k (bytesOf n l) ≡ bytesOf k l
+unfolding bytesOf
+take-bytes zero n l h = refl
+take-bytes (suc k) zero l h = absurd (not-suc-le-zero h)
+take-bytes (suc k) (suc n) l h = ap (λ (r : List ℕ). value (take 8 l) ∷ r) (take-bytes k n (drop 8 l) (le-of-suc-le-suc h))
+
+bytes-length : (n : ℕ) (l : List ℕ) → length (bytesOf n l) ≡ n
+unfolding bytesOf
+bytes-length zero l = refl
+bytes-length (suc n) l = ap suc (bytes-length n (drop 8 l))
+
+-- ---- n bytes that hold bits and then zeros
+
+pub packed-length : (n : ℕ) (l : List ℕ) → length (packedTo n l) ≡ n
+unfolding packedTo
+packed-length n l = bytes-length n (l ++ replicate (n * 8 - length l) 0)
+
+-- they are what the bits make, written over zeros
+pub packed-is : (n : ℕ) (xs f : List ℕ) → length xs ≡ n → ((i : ℕ) → getD xs i 0 < 2 ^ 8) → bitsOf xs ≡ splice (bitsOf (replicate n 0)) 0 f → xs ≡ packedTo n f
+unfolding packedTo
+packed-is n xs f el h e = sym (bytes-back xs h) ∙ ap₂ bytesOf el (e ∙ splice-zeros n f)
+
+-- and the first k of them, enough for the bits, hold the bits and then zeros to a byte
+pub packed-bits : (k n : ℕ) (l : List ℕ) → Bits l → k ≤ n → length l ≤ k * 8 → bitsOf (take k (packedTo n l)) ≡ l ++ replicate (k * 8 - length l) 0
+unfolding packedTo
+packed-bits k n l x h g =
+    let z : List ℕ = replicate (n * 8 - length l) 0 in
+    let lz : length z ≡ n * 8 - length l = length-replicate (n * 8 - length l) 0 in
+    let e : k * 8 ≡ length l + (k * 8 - length l) = omega arith in
+    ap bitsOf (take-bytes k n (l ++ z) h)
+    ∙ bits-back k (l ++ z) (bits-append l z x (bits-zeros (n * 8 - length l))) (omega (arith, length-append l z))
+    ∙ ap (λ (i : ℕ). take i (l ++ z)) e ∙ take-append-add l z (k * 8 - length l)
+    ∙ ap (λ (r : List ℕ). l ++ r) (take-zeros (k * 8 - length l) (n * 8 - length l) (omega arith))

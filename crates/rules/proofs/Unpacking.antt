@@ -1,0 +1,165 @@
+-- The laws of the unpacker's definitions: each answer of each part, and a turn of a loop over the instructions. Assumes nothing.
+use Prim.Native.Nat.{ℕ, zero, suc, _+_, _-_, _*_, _^_, _≤_, _<_}
+use mathlib.Core.Path.{_≡_, refl, sym, ap, ap₂, _∙_}
+use mathlib.Core.Bool.{Bool, true, false, cond, _&&_}
+use mathlib.Core.List.{List, [], _∷_, _++_, append-assoc, append-nil}
+use native.Mathlib.Numerals.{add-one}
+use native.Mathlib.Omega.{arith}
+use borrow.Author.Tests.{lt-ltb, le-ltb, eq-eqb, ne-eqb}
+use lib.Dec.{ltb, eqb}
+use lib.ListN.{length, take, drop, set, replicate, length-drop, take-append-drop}
+use lib.Seq.{take-suc-set, drop-set-lt, length-take-le, drop-drop}
+use Rattle.rules.specs.Sizes.{maxProgram}
+use Rattle.rules.specs.Fields.{value, bitsOf}
+use Rattle.rules.specs.Instructions.{kindOf}
+use Rattle.rules.specs.Table.{placeOf, within}
+use Rattle.rules.specs.Image.{Filed, widthOf, extended, takeOperand, takeOne, Unpacking, places, unfit, prepend, padded, atEnd, followed, unpackFrom, unpacked, filed, unpack}
+use Rattle.rules.specs.declared.ImageRefusal.{ImageRefusal}
+use Rattle.rules.specs.declared.ImageRefusal.the-variants.{OutputLength, EndsEarly, CountTooHigh, CodeTooHigh, OperandOutside, BadPadding}
+use Rattle.rules.specs.declared.Packed.the-variants.{Length, Denied}
+use Rattle.rules.specs.declared.Taken.{Taken}
+use Rattle.rules.specs.declared.Taken.the-variants.{Place, Unfit}
+use Rattle.rules.proofs.Fields.{bitsOf-length}
+use Rattle.rules.proofs.Bits.{drop-zeros}
+
+-- the bits that are left
+pub rest-length : (image : List ℕ) (at : ℕ) → length (drop at (bitsOf image)) ≡ length image * 8 - at
+rest-length image at = length-drop at (bitsOf image) ∙ ap (λ (n : ℕ). n - at) (bitsOf-length image)
+
+-- two tests, each of which is known
+conds : {A : Type 0} (a b c : A) {x y u v : Bool} → x ≡ u → y ≡ v → cond x a (cond y b c) ≡ cond u a (cond v b c)
+conds a b c e f = ap₂ (λ (s t : Bool). cond s a (cond t b c)) e f
+
+-- ---- an operand
+module _ (count code : ℕ) (bits : List ℕ) where
+  -- the 32 bits that it has in a table
+  abbrev pub operandAt : ℕ
+  operandAt = extended (kindOf code) (value (take (widthOf (kindOf code)) bits))
+
+  pub operand-short : length bits < widthOf (kindOf code) → takeOperand count code bits ≡ Unfit EndsEarly
+  unfolding takeOperand
+  operand-short h = simp (lt-ltb (length bits) (widthOf (kindOf code)) h)
+
+  pub operand-outside : widthOf (kindOf code) ≤ length bits → within (kindOf code) count operandAt ≡ false → takeOperand count code bits ≡ Unfit OperandOutside
+  unfolding takeOperand
+  operand-outside h e = conds _ _ _ (le-ltb _ _ h) e
+
+  pub operand-taken : widthOf (kindOf code) ≤ length bits → within (kindOf code) count operandAt ≡ true
+      → takeOperand count code bits ≡ Place (placeOf code operandAt) (6 + widthOf (kindOf code))
+  unfolding takeOperand
+  operand-taken h e = conds _ _ _ (le-ltb _ _ h) e
+
+-- ---- an instruction
+module _ (count : ℕ) (bits : List ℕ) where
+  pub one-short : length bits < 6 → takeOne count bits ≡ Unfit EndsEarly
+  unfolding takeOne
+  one-short h = simp (lt-ltb (length bits) 6 h)
+
+  pub one-code : 6 ≤ length bits → 49 < value (take 6 bits) → takeOne count bits ≡ Unfit CodeTooHigh
+  unfolding takeOne
+  one-code h g = conds _ _ _ (le-ltb _ _ h) (lt-ltb _ _ g)
+
+  pub one-operand : 6 ≤ length bits → value (take 6 bits) ≤ 49 → takeOne count bits ≡ takeOperand count (value (take 6 bits)) (drop 6 bits)
+  unfolding takeOne
+  one-operand h g = conds _ _ _ (le-ltb _ _ h) (le-ltb _ _ g)
+
+-- ---- what is left at the end
+
+pub padded-long : (bits : List ℕ) → 8 ≤ length bits → padded bits ≡ false
+unfolding padded
+padded-long bits h = ap (λ (b : Bool). b && eqb (value bits) 0) (le-ltb _ _ h)
+
+pub padded-short : (bits : List ℕ) → length bits < 8 → padded bits ≡ eqb (value bits) 0
+unfolding padded
+padded-short bits h = ap (λ (b : Bool). b && eqb (value bits) 0) (lt-ltb _ _ h)
+
+-- ---- the whole image
+module _ (image : List ℕ) where
+  pub unpacked-short : length (bitsOf image) < 11 → unpacked image ≡ unfit EndsEarly
+  unfolding unpacked
+  unpacked-short h = simp (lt-ltb (length (bitsOf image)) 11 h)
+
+  module _ (n : ℕ) (l : 11 ≤ length (bitsOf image)) (e : n ≡ value (take 11 (bitsOf image))) where
+    pub unpacked-count : maxProgram < n → unpacked image ≡ unfit CountTooHigh
+    unfolding unpacked
+    unpacked-count h = conds _ _ _ (le-ltb _ _ l) (ap (ltb maxProgram) (sym e) ∙ lt-ltb maxProgram n h)
+
+    pub unpacked-from : n ≤ maxProgram → unpacked image ≡ unpackFrom n n (drop 11 (bitsOf image))
+    unfolding unpacked
+    unpacked-from h =
+        conds _ _ _ (le-ltb _ _ l) (ap (ltb maxProgram) (sym e) ∙ le-ltb maxProgram n h)
+        ∙ ap (λ (k : ℕ). unpackFrom k k (drop 11 (bitsOf image))) (sym e)
+
+  -- a refusal, and the zeros that go with it
+  pub unfit-filed : (k : ImageRefusal) (x : List ℕ) → unpacked image ≡ unfit k → x ≡ replicate maxProgram 0
+      → (Denied k ≡ filed (unpacked image) .answer) × (x ≡ filed (unpacked image) .output)
+  unfit-filed k x e h = (sym (ap (λ (u : Unpacking). filed u .answer) e), h ∙ sym (ap (λ (u : Unpacking). filed u .output) e))
+
+pub prepend-none : (u : Unpacking) → prepend [] u ≡ u
+prepend-none (places ps) = refl
+prepend-none (unfit k) = refl
+
+pub prepend-prepend : (xs ys : List ℕ) (u : Unpacking) → prepend xs (prepend ys u) ≡ prepend (xs ++ ys) u
+prepend-prepend xs ys (places ps) = ap places (sym (append-assoc xs ys ps))
+prepend-prepend xs ys (unfit k) = refl
+
+pub from-one : (count m : ℕ) (bits : List ℕ) {o : Taken} → takeOne count bits ≡ o → unpackFrom count (suc m) bits ≡ followed o (λ k. unpackFrom count m (drop k bits))
+unfolding unpackFrom
+from-one count m bits e = ap (λ (o : Taken). followed o (λ k. unpackFrom count m (drop k bits))) e
+
+-- one turn of a loop that holds the first i places, at bit `at`
+module _ (u : Unpacking) (n i at : ℕ) (table bits : List ℕ) (hn : i < n)
+    (e : u ≡ prepend (take i table) (unpackFrom n (n - i) (drop at bits))) where
+  next : {o : Taken} → takeOne n (drop at bits) ≡ o → u ≡ prepend (take i table) (followed o (λ k. unpackFrom n (n - (i + 1)) (drop k (drop at bits))))
+  next r =
+      let f : n - i ≡ suc (n - (i + 1)) = omega arith in
+      e ∙ ap (λ (k : ℕ). prepend (take i table) (unpackFrom n k (drop at bits))) f ∙ ap (prepend (take i table)) (from-one n (n - (i + 1)) (drop at bits) r)
+
+  pub turn-unfit : (k : ImageRefusal) → takeOne n (drop at bits) ≡ Unfit k → u ≡ unfit k
+  turn-unfit k r = next r
+
+  pub turn-place : (p taken : ℕ) → i < length table → takeOne n (drop at bits) ≡ Place p taken
+      → u ≡ prepend (take (i + 1) (set table i p)) (unpackFrom n (n - (i + 1)) (drop (at + taken) bits))
+  turn-place p taken h r =
+      next r ∙ prepend-prepend (take i table) (p ∷ []) (unpackFrom n (n - (i + 1)) (drop taken (drop at bits)))
+      ∙ ap₂ (λ (ps l : List ℕ). prepend ps (unpackFrom n (n - (i + 1)) l))
+      (sym (take-suc-set table i p h) ∙ ap (λ (k : ℕ). take k (set table i p)) (sym (add-one i)))
+      (drop-drop taken at bits)
+
+pub turn-rest : (table : List ℕ) (i p : ℕ) → i < maxProgram → drop i table ≡ replicate (maxProgram - i) 0
+    → drop (i + 1) (set table i p) ≡ replicate (maxProgram - (i + 1)) 0
+turn-rest table i p h e =
+    let f : maxProgram - i - 1 ≡ maxProgram - (i + 1) = omega arith in
+    drop-set-lt (i + 1) table i p (omega arith) ∙ sym (drop-drop 1 i table) ∙ ap (drop 1) e ∙ drop-zeros 1 (maxProgram - i) ∙ ap (λ (k : ℕ). replicate k 0) f
+
+-- the end of that loop
+module _ (image table : List ℕ) (n at : ℕ) (e : unpacked image ≡ prepend (take n table) (unpackFrom n 0 (drop at (bitsOf image)))) where
+  pub end-unfit : padded (drop at (bitsOf image)) ≡ false → unpacked image ≡ unfit BadPadding
+  unfolding unpackFrom atEnd
+  end-unfit p = e ∙ ap (λ (b : Bool). prepend (take n table) (cond b (places []) (unfit BadPadding))) p
+
+  pub end-filed : padded (drop at (bitsOf image)) ≡ true → n ≤ maxProgram → length table ≡ maxProgram → drop n table ≡ replicate (maxProgram - n) 0
+      → (Length n ≡ filed (unpacked image) .answer) × (table ≡ filed (unpacked image) .output)
+  unfolding unpackFrom atEnd
+  end-filed p h l z =
+      let f : unpacked image ≡ places (take n table) =
+      e ∙ ap (λ (b : Bool). prepend (take n table) (cond b (places []) (unfit BadPadding))) p ∙ ap places (append-nil (take n table)) in
+      let k : length (take n table) ≡ n = length-take-le n table (omega arith) in (
+        sym (ap (λ (u : Unpacking). filed u .answer) f ∙ ap Length k),
+        sym (ap (λ (u : Unpacking). filed u .output) f ∙ ap (λ (m : ℕ). take n table ++ replicate (maxProgram - m) 0) k
+            ∙ ap (λ (r : List ℕ). take n table ++ r) (sym z) ∙ take-append-drop n table),
+      )
+
+-- ---- the answers
+module _ (image table : List ℕ) where
+  abbrev refusedLength : Filed
+  refusedLength = record { answer = Denied OutputLength; output = table }
+
+  -- 31
+  pub unpack-length : (length table ≡ maxProgram → ⊥) → unpack image table ≡ refusedLength
+  unfolding unpack
+  unpack-length h = ap (λ (b : Bool). cond b (filed (unpacked image)) refusedLength) (ne-eqb (length table) maxProgram h)
+
+  pub unpack-filed : length table ≡ maxProgram → unpack image table ≡ filed (unpacked image)
+  unfolding unpack
+  unpack-filed h = ap (λ (b : Bool). cond b (filed (unpacked image)) refusedLength) (eq-eqb (length table) maxProgram h)
