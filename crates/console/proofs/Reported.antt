@@ -21,11 +21,14 @@ use Rattle.rules.specs.Reset.{sizeTests, reset}
 use Rattle.rules.specs.Assemble.{assemble}
 use Rattle.rules.specs.Console.{line, cellLine, cellLines, report, consoleLimit, consoleMemory, consoleRun, printedFor, printed}
 use Rattle.rules.specs.declared.Registers.{Registers}
+use Rattle.rules.specs.declared.Reset.{Reset}
+use Rattle.rules.specs.declared.Run.{Run}
 use Rattle.rules.specs.declared.Step.{Step}
 use Rattle.rules.specs.declared.Step.the-variants.{Next, Refused}
 use Rattle.rules.specs.declared.Assembled.{Assembled}
 use Rattle.rules.specs.declared.Assembled.the-variants.{Made, Fault}
 use Rattle.rules.specs.declared.TextRefusal.{TextRefusal}
+use Rattle.state.specs.Outcomes.{started}
 use Rattle.digits.specs.Put.{Put}
 use Rattle.lister.proofs.Writing.{put-zeros}
 use Rattle.rules.proofs.Tests.{by-test}
@@ -142,6 +145,30 @@ pub console-sp : (p : Program) → consoleRun p .answer .registers .sp < maxCell
 unfolding consoleRun
 console-sp p =
     run-sp p consoleLimit (reset p consoleMemory .answer .registers) (reset p consoleMemory .memory) (omega (arith, reset-sp p consoleMemory))
+
+-- ---- what the reset and the run of the console leave
+
+none-left : (l : List ℕ) → length l ≡ 0 → l ≡ []
+none-left [] e = refl
+none-left (x ∷ l) e = absurd (let y : ⊥ = omega (arith, e) in y)
+
+module _
+    (p : Program)
+    (s : Reset)
+    (a : Run)
+    (b₁ t₁ h₁ b₂ t₂ h₂ : List ℕ)
+    (begins : started s b₁ t₁ h₁ ≡ reset p consoleMemory)
+    (tells : a ≡ run p consoleLimit (s .registers) (memory b₁ t₁ h₁) .answer)
+    (leaves : memory b₂ t₂ h₂ ≡ run p consoleLimit (s .registers) (memory b₁ t₁ h₁) .memory)
+    (bare : length h₂ ≡ 0) where
+  pub console-ran : consoleRun p ≡ record { answer = a; memory = memory b₂ t₂ [] }
+  unfolding consoleRun
+  console-ran =
+      let e : memory b₂ t₂ [] ≡ run p consoleLimit (s .registers) (memory b₁ t₁ h₁) .memory = rw (none-left h₂ bare) at leaves in
+      rw (← begins, tells, e)
+
+  pub ran-sp : a .registers .sp < maxCells
+  ran-sp = subst (λ (x : Ran). x .answer .registers .sp < maxCells) console-ran (console-sp p)
 
 -- ---- what is printed fits
 

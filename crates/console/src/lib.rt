@@ -10,7 +10,6 @@ ghost use mathlib.Core.List.{_++_};
 ghost use Prim.Native.Nat.{_-_};
 ghost use lib.ListN.{length, replicate};
 ghost use Rattle.rules.specs.Console.{printed};
-
 pub use lines::put_cell;
 
 // Assembles the source and runs the program, and writes what is printed for it; zeros after that, and its length told.
