@@ -1,7 +1,7 @@
 -- `put_run` meets its contract: the reset's registers and cells are the run's, and the run's are reported. Assumes nothing.
 use native.Mathlib.Omega.{arith}
 use Rattle.rules.specs.Table.{program}
-use Rattle.console.proofs.Reported as law
+use Rattle.console.proofs.ConsoleRun as law
 use borrow.Author.Needs.{needs}
 use Rattle.console.proofs.report.put_run.Statement.{statement}
 use Rattle.console.proofs.report.put_run.Tie as tie
