@@ -4,11 +4,11 @@ use mathlib.Core.Path.{refl}
 use native.Mathlib.Omega.{arith}
 use Rattle.rules.specs.Bytes.{LF}
 use Rattle.rules.specs.Listing.{signedText}
-use Rattle.rules.proofs.Texts.{length-decimal, length-signed, length-hex}
+use Rattle.rules.proofs.Texts.{length-signed}
 use Rattle.lister.proofs.Writing.{put-last}
 use borrow.Author.Needs.{needs}
-use Rattle.console.proofs.words.put_signed.Statement.{statement}
-use Rattle.console.proofs.words.put_signed.Tie as tie
+use Rattle.console.proofs.values.put_signed.Statement.{statement}
+use Rattle.console.proofs.values.put_signed.Tie as tie
 
 put-signed-requires : tie.Need-put-signed-requires
 put-signed-requires c κs = search needs

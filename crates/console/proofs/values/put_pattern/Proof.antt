@@ -5,11 +5,11 @@ use mathlib.Core.Path.{_≡_, refl}
 use native.Mathlib.Omega.{arith}
 use Rattle.rules.specs.Bytes.{hash, LF}
 use Rattle.rules.specs.Listing.{hex}
-use Rattle.rules.proofs.Texts.{length-decimal, length-signed, length-hex}
+use Rattle.rules.proofs.Texts.{length-hex}
 use Rattle.lister.proofs.Writing.{put-front, put-last}
 use borrow.Author.Needs.{needs}
-use Rattle.console.proofs.words.put_pattern.Statement.{statement}
-use Rattle.console.proofs.words.put_pattern.Tie as tie
+use Rattle.console.proofs.values.put_pattern.Statement.{statement}
+use Rattle.console.proofs.values.put_pattern.Tie as tie
 
 put-byte-requires : tie.Need-put-byte-requires
 put-byte-requires c κs = search needs

@@ -1,8 +1,8 @@
 -- `put_value` meets its contract, tag by tag. Assumes nothing.
 use Rattle.console.proofs.Writing as law
 use borrow.Author.Needs.{needs}
-use Rattle.console.proofs.words.put_value.Statement.{statement}
-use Rattle.console.proofs.words.put_value.Tie as tie
+use Rattle.console.proofs.values.put_value.Statement.{statement}
+use Rattle.console.proofs.values.put_value.Tie as tie
 
 put-pattern-requires : tie.Need-put-pattern-requires
 put-pattern-requires c κs = search needs
