@@ -6,6 +6,8 @@ mod numbers;
 mod pack;
 mod registers;
 mod reset;
+mod run;
+mod step;
 mod step_back;
 mod told;
 mod unpack;
