@@ -3,7 +3,7 @@ use Prim.Native.Nat.{ℕ, _+_, _-_, _≤_}
 use mathlib.Core.Path.{_≡_}
 use mathlib.Core.List.{List, [], _∷_, _++_}
 use native.Mathlib.Omega.{arith}
-use lib.ListN.{length, replicate}
+use lib.ListN.{length, replicate, length-append}
 use Rattle.rules.specs.Lists.{text}
 use Rattle.rules.specs.Sizes.{maxProgram}
 use Rattle.rules.specs.Listing.{decimal}
@@ -49,3 +49,7 @@ pub shown : (source new t : List ℕ) (r : ℕ) → printed source ≡ t → Put
 shown source new t r e p =
     let q : Put (replicate 32768 0) new 0 (printed source) r = rw e p in
     (q .length-told, put-zeros 32768 r new (printed source) (printed-short source) q)
+
+-- so what is told lies within the lent bytes
+pub told-within : (source new : List ℕ) (r : ℕ) → (r ≡ length (printed source)) × (new ≡ printed source ++ replicate (32768 - length (printed source)) 0) → r ≤ length new
+told-within source new r p = rw (p .1, length-append) (omega (arith, p .0))
