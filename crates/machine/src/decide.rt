@@ -16,8 +16,8 @@ use rules::Registers;
 
 // The decision of an instruction that computes on the two top values, 5 to 33. A code past the last does what STOP does; no sound table has one.
 fn on_results(code: usize, r: Registers, vb: Cell, vt: Cell) -> Decision
-    requires { ⌜ Small r × (5 ≤ code) × (34 ≤ code → 50 ≤ code) ⌝ }
-    ensures { λ d. ⌜ (m : Memory) (n : ℕ) → d ≡ onValues r m n vb vt (actionOf code) ⌝ }
+    requires { ⌜ Small r × ((5 ≤ code) × (34 ≤ code → 50 ≤ code)) ⌝ }
+    ensures { λ d. ⌜ ((m : Memory) (n : ℕ) → d ≡ onValues r m n vb vt (actionOf code)) ⌝ }
 {
     let b = vb.bits;
     let t = vt.bits;
