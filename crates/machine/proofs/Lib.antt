@@ -3,3 +3,5 @@ pub mod Blocks
 pub mod Signed
 pub mod Reach
 pub mod PastEnd
+pub mod Steps
+pub mod Turns

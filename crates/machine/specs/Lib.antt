@@ -1,4 +1,6 @@
 -- What the inner contracts of `machine` cite.
-pub mod Fits
 pub mod Small
 pub mod Reach
+pub mod Fits
+pub mod Ready
+pub mod Outcomes

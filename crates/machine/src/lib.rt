@@ -4,3 +4,5 @@ mod commit;
 mod decide;
 mod effects;
 mod families;
+pub mod run;
+pub mod step;

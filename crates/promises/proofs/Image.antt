@@ -5,7 +5,7 @@
 -- place.
 --
 -- Assumes nothing.
-use Prim.Native.Nat.{ℕ, suc, _+_, _-_, _*_, _/_, _%_, _^_, _≤_, _<_}
+use Prim.Native.Nat.{ℕ, suc, _+_, _-_, _*_, _%_, _^_, _≤_, _<_}
 use mathlib.Core.Path.{_≡_, refl, sym, ap, ap₂, _∙_, subst}
 use mathlib.Core.Bool.{Bool, true, false, cond, _||_}
 use mathlib.Core.List.{List, [], _∷_, _++_, append-assoc}
@@ -22,7 +22,7 @@ use Rattle.rules.specs.Numbers.{lengthOfPacked}
 use Rattle.rules.specs.Fields.{field, value, bitsOf}
 use Rattle.rules.specs.Instructions.{codes, kindOf}
 use Rattle.rules.specs.Table.{Program, placeOf, codeOf, operandOf, within, soundPlace, soundTable}
-use Rattle.rules.specs.Image.{widthOf, instructionBits, programBits, imageBits, imageLength, packedTo, Filed, pack, extended, takeOperand, takeOne, Unpacking, places, unfit, prepend, padded, atEnd, unpackFrom, unpacked, filed, unpack}
+use Rattle.rules.specs.Image.{widthOf, instructionBits, programBits, imageBits, imageLength, packedTo, Filed, pack, extended, takeOperand, takeOne, places, unfit, prepend, padded, atEnd, unpackFrom, unpacked, filed, unpack}
 use Rattle.rules.specs.declared.Kind.{Kind}
 use Rattle.rules.specs.declared.Kind.the-variants.{Bare, Immediate, Pattern, Offset, Target}
 use Rattle.rules.specs.declared.ImageRefusal.the-variants.{BadPadding}

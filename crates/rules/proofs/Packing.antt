@@ -1,5 +1,5 @@
 -- The laws of the packer's definitions: the bits of a program, instruction after instruction, and the three answers. Assumes nothing.
-use Prim.Native.Nat.{ℕ, zero, suc, _+_, _*_, _/_, _≤_, _<_}
+use Prim.Native.Nat.{ℕ, _+_, _*_, _≤_, _<_}
 use mathlib.Core.Path.{_≡_, refl, sym, ap, ap₂, _∙_}
 use mathlib.Core.Bool.{Bool, true, false, cond}
 use mathlib.Core.List.{List, [], _∷_, _++_, append-assoc, append-nil}
@@ -10,7 +10,7 @@ use lib.ListN.{length, take, getD, replicate, length-append}
 use lib.Seq.{take-suc}
 use Rattle.rules.specs.Lists.{splice}
 use Rattle.rules.specs.Sizes.{imageSize}
-use Rattle.rules.specs.Fields.{field, bitsOf}
+use Rattle.rules.specs.Fields.{field}
 use Rattle.rules.specs.Instructions.{kindOf}
 use Rattle.rules.specs.Table.{Program, program, codeOf, operandOf, soundTable}
 use Rattle.rules.specs.Image.{widthOf, instructionBits, programBits, imageBits, imageLength, packedTo, Filed, pack}

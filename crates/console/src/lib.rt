@@ -1,0 +1,29 @@
+// What the console program prints for a source, in lent bytes.
+mod lines;
+mod numbers;
+mod report;
+mod values;
+mod words;
+
+use rules::Assembled;
+ghost use mathlib.Core.Path.{_≡_};
+ghost use mathlib.Core.List.{_++_};
+ghost use Prim.Native.Nat.{_-_};
+ghost use lib.ListN.{length, replicate};
+ghost use Rattle.rules.specs.Console.{printed};
+pub use lines::put_cell;
+
+// Assembles the source and runs the program, and writes what is printed for it; zeros after that, and its length told.
+pub fn print(source: &[u8], out: &mut [u8; 32768]) -> usize
+    ensures { λ r. ⌜ (r ≡ length (printed (now (source .entry)))) × (now (out .exit) ≡ printed (now (source .entry)) ++ replicate (32768 - length (printed (now (source .entry)))) 0) ⌝ }
+{
+    *out = [0; 32768];
+    let mut table = [0u64; 1024];
+    let made = assembler::assemble(source, &mut table);
+    match made {
+        Assembled::Made(length) => report::put_run(out, &table, length),
+        Assembled::Fault(refusal, place) => {
+            lines::put_refused(out, numbers::text_number(refusal), place)
+        }
+    }
+}

@@ -1,0 +1,62 @@
+// The report of a run: how it ended, the registers, and each live cell.
+use crate::lines::put_cell;
+use crate::lines::put_ending;
+use crate::lines::put_registers;
+use crate::numbers::ending_number;
+use rules::Run;
+ghost use mathlib.Core.Path.{_≡_};
+ghost use mathlib.Core.List.{[]};
+ghost use Prim.Native.Nat.{_≤_, _<_};
+ghost use lib.ListN.{length};
+ghost use Rattle.rules.specs.Table.{program};
+ghost use Rattle.rules.specs.State.{memory};
+ghost use Rattle.rules.specs.Console.{cellLines, report, consoleRun};
+ghost use Rattle.digits.specs.Put.{Put};
+
+// Writes the lines of the first `sp` cells.
+fn put_cells(out: &mut [u8], at: usize, sp: usize, bits: &[u32], tags: &[u8]) -> usize
+    requires { ⌜ (at ≤ 128) × (sp < 1000) × (length (now bits) ≡ 1000) × (length (now tags) ≡ 1000) ⌝ }
+    ensures { λ r. ⌜ Put (now (out .entry)) (now (out .exit)) at (cellLines (memory (now (bits .entry)) (now (tags .entry)) []) 0 sp) r ⌝ }
+{
+    let mut told = 0;
+    let mut i = 0;
+    while i < sp {
+        told += put_cell(out, at + told, i, bits[i], tags[i]);
+        i += 1;
+    }
+    told
+}
+
+// Writes the report of a run that left these cells.
+fn put_report(out: &mut [u8], ran: Run, bits: &[u32], tags: &[u8]) -> usize
+    requires { ⌜ (ran .registers .sp < 1000) × (length (now bits) ≡ 1000) × (length (now tags) ≡ 1000) ⌝ }
+    ensures { λ r. ⌜ Put (now (out .entry)) (now (out .exit)) 0 (report (record { answer = ran; memory = memory (now (bits .entry)) (now (tags .entry)) [] })) r ⌝ }
+{
+    let ending = ran.ending;
+    let registers = ran.registers;
+    let number = ending_number(ending);
+    let a = put_ending(out, number, ran.steps);
+    let b = a + put_registers(out, a, registers.pc, registers.sp, registers.fbr);
+    b + put_cells(out, b, registers.sp, bits, tags)
+}
+
+// Runs the program of a table on 1,000 cells, all INT 0, with no history and at most 100,000 steps, and writes the report.
+pub(crate) fn put_run(out: &mut [u8], table: &[u64], length: usize) -> usize
+    ensures { λ r. ⌜ Put (now (out .entry)) (now (out .exit)) 0 (report (consoleRun (program (now (table .entry)) length))) r ⌝ }
+{
+    let mut bits = [0u32; 1000];
+    let mut tags = [0u8; 1000];
+    let mut history = [0u64; 0];
+    let start = state::reset(table, length, &mut bits, &mut tags, &mut history);
+    let registers = start.registers;
+    let ran = machine::run::run(
+        table,
+        length,
+        registers,
+        &mut bits,
+        &mut tags,
+        &mut history,
+        100000,
+    );
+    put_report(out, ran, &bits, &tags)
+}

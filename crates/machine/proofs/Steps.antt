@@ -1,0 +1,130 @@
+-- A step in each of its cases, and what a sound state gives to the parts of a step. Assumes nothing.
+use Prim.Native.Nat.{ℕ, _+_, _-_, _≤_, _<_}
+use mathlib.Core.Path.{_≡_, refl, sym, ap, _∙_, subst}
+use mathlib.Core.Bool.{Bool, true, false}
+use mathlib.Core.List.{List}
+use native.Mathlib.Numerals.{add-one}
+use native.Mathlib.Omega.{arith}
+use lib.ListN.{getD}
+use lib.Dec.{leb, ltb}
+use borrow.Author.Tests.{lt-ltb, le-ltb, eq-eqb, ne-eqb}
+use Rattle.rules.specs.Table.{Program}
+use Rattle.rules.specs.State.{Memory, memory, sound}
+use Rattle.rules.specs.Commit.{roomIn, roomFor, registersOf, memoryOf}
+use Rattle.rules.specs.Decide.{demand}
+use Rattle.rules.specs.Step.{decideAt, fitted, judged, unchanged, carried, step, plainStep}
+use Rattle.rules.specs.declared.Registers.{Registers}
+use Rattle.rules.specs.declared.Effect.{Effect}
+use Rattle.rules.specs.declared.Decision.{Decision}
+use Rattle.rules.specs.declared.Decision.the-variants.{Does, Refuses}
+use Rattle.rules.specs.declared.MachineRefusal.{MachineRefusal}
+use Rattle.rules.specs.declared.MachineRefusal.the-variants.{AlreadyHalted, AtEnd, StackFull, HistoryFull, Broken}
+use Rattle.rules.specs.declared.Step.{Step}
+use Rattle.rules.specs.declared.Step.the-variants.{Next, Refused}
+use Rattle.rules.proofs.Fair.{Sound}
+use Rattle.rules.proofs.Effects.{sound-facts, judged-going, fair-judged, table-short, table-long}
+use Rattle.rules.proofs.Sound.{step-plain, sound-step}
+use Rattle.state.specs.Outcomes.{stepped}
+use Rattle.machine.specs.Ready.{Ready}
+use Rattle.machine.specs.Fits.{Fits}
+
+-- ---- 7 and 8
+
+module _ (r : Registers) (e : Effect) where
+  pub room-none : r .h ≡ 0 → true ≡ roomFor r e
+  room-none h = ap (λ (t : Bool). roomIn t (r .h - r .used) (e .count + 1)) (sym (le-ltb 0 (r .h) (omega (arith, h))))
+
+  pub room-some : (r .h ≡ 0 → ⊥) → ltb (e .count) (r .h - r .used) ≡ roomFor r e
+  room-some h =
+      ap (λ (n : ℕ). leb n (r .h - r .used)) (sym (add-one (e .count)))
+      ∙ ap (λ (t : Bool). roomIn t (r .h - r .used) (e .count + 1)) (sym (lt-ltb 0 (r .h) (omega (arith, h))))
+
+  pub fitted-high : r .n ≤ e .sp → fitted r (Does e) ≡ Refuses StackFull
+  fitted-high h = ap (λ (t : Bool). demand t StackFull (demand (roomFor r e) HistoryFull (Does e))) (le-ltb (e .sp) (r .n) h)
+
+  module _ (low : e .sp < r .n) where
+    fitted-low : fitted r (Does e) ≡ demand (roomFor r e) HistoryFull (Does e)
+    fitted-low = ap (λ (t : Bool). demand t StackFull (demand (roomFor r e) HistoryFull (Does e))) (lt-ltb (e .sp) (r .n) low)
+
+    pub fitted-full : roomFor r e ≡ false → fitted r (Does e) ≡ Refuses HistoryFull
+    fitted-full h = fitted-low ∙ ap (λ (t : Bool). demand t HistoryFull (Does e)) h
+
+    pub fitted-fits : roomFor r e ≡ true → fitted r (Does e) ≡ Does e
+    fitted-fits h = fitted-low ∙ ap (λ (t : Bool). demand t HistoryFull (Does e)) h
+
+module _ (p : Program) (r : Registers) (m : Memory) where
+  -- ---- "1 to 8 in order"
+
+  pub judged-halted : (r .halt ≡ 0 → ⊥) → judged p r m ≡ Refuses AlreadyHalted
+  unfolding judged
+  judged-halted h = rw (ne-eqb (r .halt) 0 h) refl
+
+  module _ (running : r .halt ≡ 0) where
+    pub judged-end : r .pc ≡ p .count → judged p r m ≡ Refuses AtEnd
+    unfolding judged
+    judged-end h = rw (eq-eqb (r .halt) 0 running, eq-eqb (r .pc) (p .count) h) refl
+
+    pub judged-fitted : (r .pc ≡ p .count → ⊥) → judged p r m ≡ fitted r (decideAt r m (getD (p .places) (r .pc) 0))
+    unfolding judged
+    judged-fitted h = rw (eq-eqb (r .halt) 0 running, ne-eqb (r .pc) (p .count) h) refl
+
+  -- ---- "10, then 1 to 8 in order"
+
+  pub step-broken : sound p r m ≡ false → step p r m ≡ unchanged m Broken
+  unfolding step
+  step-broken h = rw h refl
+
+  module _ (s : sound p r m ≡ true) where
+    pub ready : Ready (p .places) (p .count) r
+    ready =
+        let f : Sound p r m = sound-facts p r m s in
+        let short = table-short p (f .table) in
+        let long = table-long p (f .table) in
+        record {
+          small = (omega (arith, f .pc, short), omega (arith, f .sp, f .few), omega (arith, f .fbr, f .few));
+          pc = f .pc;
+          within = omega (arith, short, long);
+          used = f .used;
+        }
+
+    pub fits : (e : Effect) → judged p r m ≡ Does e → Fits r e m
+    fits e q =
+        let f : Sound p r m = sound-facts p r m s in
+        record {
+          cells = f .bits;
+          tagged = f .tags;
+          places = f .history;
+          used = f .used;
+          block = fair-judged p r m e s q .fits;
+          room = judged-going p r m e q .room;
+        }
+
+    carries : step p r m ≡ carried r m (judged p r m)
+    unfolding plainStep
+    carries = step-plain p r m s
+
+    pub step-refuses : (x : MachineRefusal) → judged p r m ≡ Refuses x → step p r m ≡ unchanged m x
+    step-refuses x q = carries ∙ ap (carried r m) q
+
+    pub step-does : (e : Effect) (q : Registers) (bits tags history : List ℕ) → judged p r m ≡ Does e → q ≡ registersOf r e
+        → memory bits tags history ≡ memoryOf r m e → stepped (Next q) bits tags history ≡ step p r m
+    step-does e q bits tags history d eq em =
+        (λ i. record { answer = Next (eq i); memory = em i }) ∙ sym (carries ∙ ap (carried r m) d)
+
+    -- what an accepted step leaves is sound, and a refused step leaves what was
+    module _ (bits tags history : List ℕ) where
+      pub next-sound : (a : Step) (q : Registers) → a ≡ Next q → stepped a bits tags history ≡ step p r m → sound p q (memory bits tags history) ≡ true
+      next-sound a q k e =
+          let plain = e ∙ step-plain p r m s in
+          subst (λ (n : Memory). sound p q n ≡ true) (sym (ap (λ x. x .memory) plain))
+          (sound-step p r q m s (sym (ap (λ x. x .answer) plain) ∙ k))
+
+      refused-same : (d : Decision) (x : MachineRefusal) → stepped (Refused x) bits tags history ≡ carried r m d → memory bits tags history ≡ m
+      refused-same (Does e) x h =
+          let a : Refused x ≡ Next (registersOf r e) = ap (λ k. k .answer) h in
+          let z : _≡_ {A = ℕ} 0 1 = cc in
+          absurd (let y : ⊥ = omega arith in y)
+      refused-same (Refuses y) x h = ap (λ k. k .memory) h
+
+      pub refused-keeps : (a : Step) (x : MachineRefusal) → a ≡ Refused x → stepped a bits tags history ≡ step p r m → memory bits tags history ≡ m
+      refused-keeps a x k e = refused-same (judged p r m) x (ap (λ (z : Step). stepped z bits tags history) (sym k) ∙ e ∙ carries)

@@ -1,0 +1,88 @@
+// A run: step after step, until HALT is 1, the limit is made, or a step is refused.
+use crate::step;
+use rules::Ending;
+use rules::MachineRefusal;
+use rules::Registers;
+use rules::Run;
+use rules::Step;
+ghost use mathlib.Core.Path.{_≡_};
+ghost use mathlib.Core.Bool.{true};
+ghost use Prim.Native.Nat.{_≤_};
+ghost use Rattle.rules.specs.Sizes.{maxLimit};
+ghost use Rattle.rules.specs.Table.{program};
+ghost use Rattle.rules.specs.State.{memory, sound};
+ghost use Rattle.rules.specs.Run.{runFrom, run};
+ghost use Rattle.machine.specs.Outcomes.{ran};
+
+// A run's answer.
+fn ended(made: usize, how: Ending, at: Registers) -> Run
+    ensures { λ a. ⌜ a ≡ record { steps = made; ending = how; registers = at } ⌝ }
+{
+    Run {
+        steps: made,
+        ending: how,
+        registers: at,
+    }
+}
+
+// The turns of a run from a sound state, whose soundness is not judged again: each accepted step leaves a sound state.
+fn run_from(
+    table: &[u64],
+    count: usize,
+    r: Registers,
+    bits: &mut [u32],
+    tags: &mut [u8],
+    history: &mut [u64],
+    limit: usize,
+) -> Run
+    requires { ⌜ sound (program (now table) count) r (memory (now bits) (now tags) (now history)) ≡ true ⌝ }
+    requires { ⌜ limit ≤ maxLimit ⌝ }
+    ensures { λ a. ⌜ ran a (now (bits .exit)) (now (tags .exit)) (now (history .exit)) ≡ runFrom (program (now (table .entry)) count) limit 0 r (memory (now (bits .entry)) (now (tags .entry)) (now (history .entry))) ⌝ }
+    ensures { λ a. ⌜ a .steps ≤ limit ⌝ }
+{
+    let mut made = 0;
+    let mut at = r;
+    while made < limit {
+        if at.halt == 1 {
+            return ended(made, Ending::Halted, at);
+        }
+        let next = step::plain_step(table, count, at, bits, tags, history);
+        match next {
+            Step::Next(registers) => {
+                at = registers;
+            }
+            Step::Refused(refusal) => {
+                return ended(made, Ending::Stopped(refusal), at);
+            }
+        }
+        made += 1;
+    }
+    if at.halt == 1 {
+        return ended(made, Ending::Halted, at);
+    }
+    ended(made, Ending::LimitReached, at)
+}
+
+// A run of at most `limit` steps. It tells the steps it made, how it ended, and the registers it left.
+pub fn run(
+    table: &[u64],
+    length: usize,
+    r: Registers,
+    bits: &mut [u32],
+    tags: &mut [u8],
+    history: &mut [u64],
+    limit: usize,
+) -> Run
+    ensures { λ a. ⌜ a ≡ run (program (now (table .entry)) length) limit r (memory (now (bits .entry)) (now (tags .entry)) (now (history .entry))) .answer ⌝ }
+    ensures { λ _. ⌜ memory (now (bits .exit)) (now (tags .exit)) (now (history .exit)) ≡ run (program (now (table .entry)) length) limit r (memory (now (bits .entry)) (now (tags .entry)) (now (history .entry))) .memory ⌝ }
+    ensures { λ a. ⌜ a .steps ≤ limit ⌝ }
+{
+    if 1000000 < limit {
+        return ended(0, Ending::Stopped(MachineRefusal::OutsideSizes), r);
+    }
+    let sound = state::is_sound(table, length, r, bits, tags, history);
+    if !sound {
+        return ended(0, Ending::Stopped(MachineRefusal::Broken), r);
+    }
+    run_from(table, length, r, bits, tags, history, limit)
+}

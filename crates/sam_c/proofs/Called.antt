@@ -1,0 +1,54 @@
+-- From what the callees ensure to a whole call: the number, what is told and what is left, put together. Assumes nothing.
+use Prim.Native.Nat.{ℕ}
+use mathlib.Core.Path.{_≡_, sym, ap, _∙_}
+use mathlib.Core.List.{List, [], _∷_}
+use lib.ListN.{length}
+use Rattle.rules.specs.Table.{Program}
+use Rattle.rules.specs.State.{Memory, memory}
+use Rattle.rules.specs.Reset.{Started, reset}
+use Rattle.rules.specs.Step.{Stepped}
+use Rattle.rules.specs.Run.{Ran}
+use Rattle.rules.specs.Numbers.{numberOfReset, numberOfStep, registersAfter, numberOfEnding}
+use Rattle.rules.specs.declared.Registers.{Registers}
+use Rattle.rules.specs.declared.Reset.{Reset}
+use Rattle.rules.specs.declared.Step.{Step}
+use Rattle.rules.specs.declared.Run.{Run}
+use Rattle.state.specs.Outcomes.{started, stepped}
+use Rattle.sam_c.specs.Calls.{Filled, Moved, filled, moved, ofLength, listOf, registersOf, resetMoved, stepMoved, Walked, walked, runWalked}
+use Rattle.sam_c.proofs.Lent.{of-length}
+
+-- a call that fills an output, whose answer is a′ and which leaves out′
+module _ {A : Type 0} (number : A → ℕ) (tells : A → List ℕ) (n : ℕ) (l : List ℕ) (h : length l ≡ n) (instead : Filled) where
+  pub filled-by : {k : ℕ} {a a′ : A} {told out out′ : List ℕ} → a ≡ a′ → out ≡ out′ → told ≡ tells a → k ≡ number a
+      → filled k told out ≡ ofLength n l (filled (number a′) (tells a′) out′) instead
+  filled-by ea eo et ek =
+      (λ i. filled ((ek ∙ ap number ea) i) ((et ∙ ap tells ea) i) (eo i)) ∙ sym (of-length n l _ _ h)
+
+module _ (l : List ℕ) (h : length l ≡ 7) (instead : Moved) where
+  pub reset-called : {k : ℕ} {a : Reset} {s : Started} {registers bits tags history : List ℕ} → started a bits tags history ≡ s
+      → registers ≡ listOf (a .registers) → k ≡ numberOfReset (a .begun)
+      → moved k registers (memory bits tags history) ≡ ofLength 7 l (resetMoved s) instead
+  reset-called {bits = bits} {tags = tags} {history = history} es el ek =
+      (λ i. moved (ek i) (el i) (memory bits tags history)) ∙ ap resetMoved es ∙ sym (of-length 7 l _ _ h)
+
+  -- a step or a step-back f, which answers a
+  pub step-called : (f : Registers → Stepped) {k : ℕ} {r next : Registers} {a : Step} {registers bits tags history : List ℕ} → r ≡ registersOf l
+      → stepped a bits tags history ≡ f r → next ≡ registersAfter r a → registers ≡ listOf next → k ≡ numberOfStep a
+      → moved k registers (memory bits tags history) ≡ ofLength 7 l (stepMoved (registersOf l) (f (registersOf l))) instead
+  step-called f {r = r} {bits = bits} {tags = tags} {history = history} er es en el ek =
+      (λ i. moved (ek i) ((el ∙ ap listOf en) i) (memory bits tags history))
+      ∙ ap (stepMoved r) es
+      ∙ ap (λ (q : Registers). stepMoved q (f q)) er
+      ∙ sym (of-length 7 l _ _ h)
+
+-- a run f, which answers a and leaves m
+module _ (t : List ℕ) (ht : length t ≡ 1) (l : List ℕ) (h : length l ≡ 7) (other instead : Walked) where
+  pub run-called : (f : Registers → Ran) {k : ℕ} {r : Registers} {a : Run} {told registers : List ℕ} {m : Memory} → r ≡ registersOf l
+      → a ≡ f r .answer → m ≡ f r .memory → registers ≡ listOf (a .registers) → told ≡ a .steps ∷ [] → k ≡ numberOfEnding (a .ending)
+      → walked told k registers m ≡ ofLength 1 t (ofLength 7 l (runWalked (f (registersOf l))) other) instead
+  run-called f {r = r} er ea em el et ek =
+      (λ i. walked (et i) (ek i) (el i) (em i))
+      ∙ ap (λ (a : Run). walked (a .steps ∷ []) (numberOfEnding (a .ending)) (listOf (a .registers)) (f r .memory)) ea
+      ∙ ap (λ (q : Registers). runWalked (f q)) er
+      ∙ sym (of-length 7 l _ _ h)
+      ∙ sym (of-length 1 t _ _ ht)

@@ -1,0 +1,3 @@
+-- What several proofs cite.
+mod Lent
+mod Called

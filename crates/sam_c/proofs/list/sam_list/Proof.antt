@@ -1,0 +1,53 @@
+-- `sam_list` meets its contract: what the lister answers and leaves, and the length told. Assumes nothing.
+use Prim.Native.Nat.{ℕ}
+use mathlib.Core.Path.{sym, ap, _∙_}
+use mathlib.Core.List.{[], _∷_}
+use borrow.Author.Needs.{needs}
+use Rattle.rules.specs.Numbers.{numberOfListed, lengthOfListed}
+use Rattle.rules.specs.declared.Listed.{Listed}
+use Rattle.sam_c.proofs.Lent.{of-another}
+use Rattle.sam_c.proofs.Called.{filled-by}
+use Rattle.sam_c.proofs.list.sam_list.Statement.{statement}
+use Rattle.sam_c.proofs.list.sam_list.Tie as tie
+
+returns : tie.Need-returns
+returns c = sym (of-another 1 (c .before .before .before .before .args .told .now) _ _ (c .if1 .taken))
+
+list-requires : tie.Need-list-requires
+list-requires c κs = search needs
+
+listed-length-requires : tie.Need-listed-length-requires
+listed-length-requires c κs = search needs
+
+tell-requires : tie.Need-tell-requires
+tell-requires c κs = search needs
+
+listed-number-requires : tie.Need-listed-number-requires
+listed-number-requires c κs = search needs
+
+same-length : tie.Need-same-length
+same-length c = search needs
+
+same-length-2 : tie.Need-same-length-2
+same-length-2 c = search needs
+
+returns-2 : tie.Need-returns-2
+returns-2 c =
+    filled-by numberOfListed (λ (a : Listed). lengthOfListed a ∷ []) 1 (c .before .before .before .before .before .before .before .before .before .before .before .before .before .before .args .told .now) (c .before .before .before .before .before .before .before .before .before .before .if1 .left) _
+    (c .before .before .before .before .before .before .before .before .list .ensures .0)
+    (c .before .before .before .before .before .before .before .before .list .ensures .1)
+    (c .before .before .before .tell .ensures ∙ ap (λ (x : ℕ). x ∷ []) (c .before .before .before .before .listed-length .ensures))
+    (c .listed-number .ensures)
+
+pub sam-list-spec : {M : Type 1} → statement M
+sam-list-spec =
+    tie.close
+    (tie.spec
+    returns
+    list-requires
+    listed-length-requires
+    tell-requires
+    listed-number-requires
+    same-length
+    same-length-2
+    returns-2)

@@ -1,0 +1,53 @@
+-- `sam_pack` meets its contract: what the packer answers and leaves, and the length told. Assumes nothing.
+use Prim.Native.Nat.{ℕ}
+use mathlib.Core.Path.{sym, ap, _∙_}
+use mathlib.Core.List.{[], _∷_}
+use borrow.Author.Needs.{needs}
+use Rattle.rules.specs.Numbers.{numberOfPacked, lengthOfPacked}
+use Rattle.rules.specs.declared.Packed.{Packed}
+use Rattle.sam_c.proofs.Lent.{of-another}
+use Rattle.sam_c.proofs.Called.{filled-by}
+use Rattle.sam_c.proofs.pack.sam_pack.Statement.{statement}
+use Rattle.sam_c.proofs.pack.sam_pack.Tie as tie
+
+returns : tie.Need-returns
+returns c = sym (of-another 1 (c .before .before .before .before .args .told .now) _ _ (c .if1 .taken))
+
+pack-requires : tie.Need-pack-requires
+pack-requires c κs = search needs
+
+packed-length-requires : tie.Need-packed-length-requires
+packed-length-requires c κs = search needs
+
+tell-requires : tie.Need-tell-requires
+tell-requires c κs = search needs
+
+packed-number-requires : tie.Need-packed-number-requires
+packed-number-requires c κs = search needs
+
+same-length : tie.Need-same-length
+same-length c = search needs
+
+same-length-2 : tie.Need-same-length-2
+same-length-2 c = search needs
+
+returns-2 : tie.Need-returns-2
+returns-2 c =
+    filled-by numberOfPacked (λ (a : Packed). lengthOfPacked a ∷ []) 1 (c .before .before .before .before .before .before .before .before .before .before .before .before .before .before .args .told .now) (c .before .before .before .before .before .before .before .before .before .before .if1 .left) _
+    (c .before .before .before .before .before .before .before .before .pack .ensures .0)
+    (c .before .before .before .before .before .before .before .before .pack .ensures .1)
+    (c .before .before .before .tell .ensures ∙ ap (λ (x : ℕ). x ∷ []) (c .before .before .before .before .packed-length .ensures))
+    (c .packed-number .ensures)
+
+pub sam-pack-spec : {M : Type 1} → statement M
+sam-pack-spec =
+    tie.close
+    (tie.spec
+    returns
+    pack-requires
+    packed-length-requires
+    tell-requires
+    packed-number-requires
+    same-length
+    same-length-2
+    returns-2)

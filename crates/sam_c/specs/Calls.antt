@@ -1,0 +1,133 @@
+-- The calls for C: the number that each gives, what it tells, and what it leaves in every slice lent to be written, by the rules' definitions alone.
+-- Assumes nothing.
+use Prim.Native.Nat.{ℕ}
+use mathlib.Core.Bool.{cond}
+use mathlib.Core.List.{List, [], _∷_}
+use lib.ListN.{length, getD}
+use lib.Dec.{eqb}
+use Rattle.rules.specs.Table.{Program}
+use Rattle.rules.specs.State.{Memory}
+use Rattle.rules.specs.Assemble.{Assembly, assemble}
+use Rattle.rules.specs.Listing.{Written, list}
+use Rattle.rules.specs.Image.{Filed, pack, unpack}
+use Rattle.rules.specs.Reset.{Started, reset}
+use Rattle.rules.specs.Step.{Stepped, step}
+use Rattle.rules.specs.Back.{back}
+use Rattle.rules.specs.Run.{Ran, run}
+use Rattle.rules.specs.Numbers.{machineNumber, textNumber, numberOfAssembled, lengthOfAssembled, placeOfAssembled, numberOfListed, lengthOfListed, numberOfPacked, lengthOfPacked, numberOfReset, numberOfStep, registersAfter, numberOfEnding}
+use Rattle.rules.specs.declared.Registers.{Registers}
+use Rattle.rules.specs.declared.MachineRefusal.the-variants.{Broken}
+use Rattle.rules.specs.declared.TextRefusal.the-variants.{WrongLength}
+
+-- ---- what a call gives and leaves
+
+-- of a call that fills an output: its number, what it tells, and the output
+pub record Filled : Type 0 where
+  pub number : ℕ
+  pub told : List ℕ
+  pub output : List ℕ
+
+abbrev pub filled : ℕ → List ℕ → List ℕ → Filled
+filled k told output = record { number = k; told = told; output = output }
+
+-- of a call on a machine: its number, the registers, and the cells and the history
+pub record Moved : Type 0 where
+  pub number : ℕ
+  pub registers : List ℕ
+  pub memory : Memory
+
+abbrev pub moved : ℕ → List ℕ → Memory → Moved
+moved k registers m = record { number = k; registers = registers; memory = m }
+
+-- of a run: the same, and what it tells
+pub record Walked : Type 0 where
+  pub told : List ℕ
+  pub moved : Moved
+
+abbrev pub walked : List ℕ → ℕ → List ℕ → Memory → Walked
+walked told k registers m = record { told = told; moved = moved k registers m }
+
+-- ---- lent slices of one length
+
+-- the call where the list has its length n, and else what is answered instead
+unfoldable pub ofLength : {A : Type 0} → ℕ → List ℕ → A → A → A
+ofLength n l call instead = cond (eqb (length l) n) call instead
+
+-- "31: lent output not of its exact length", which what a call tells is lent too, and "10: broken state or table"
+abbrev pub notItsLength : ℕ
+notItsLength = textNumber WrongLength
+
+abbrev pub broken : ℕ
+broken = machineNumber Broken
+
+-- the seven registers as a list, and a list of seven as registers
+abbrev pub listOf : Registers → List ℕ
+listOf r = r .n ∷ r .h ∷ r .pc ∷ r .sp ∷ r .fbr ∷ r .halt ∷ r .used ∷ []
+
+abbrev pub registersOf : List ℕ → Registers
+registersOf l =
+    record {
+      n = getD l 0 0;
+      h = getD l 1 0;
+      pc = getD l 2 0;
+      sp = getD l 3 0;
+      fbr = getD l 4 0;
+      halt = getD l 5 0;
+      used = getD l 6 0;
+    }
+
+-- ---- the calls that fill an output
+
+abbrev pub assembleFilled : Assembly → Filled
+assembleFilled a =
+    filled (numberOfAssembled (a .answer)) (lengthOfAssembled (a .answer) ∷ placeOfAssembled (a .answer) ∷ []) (a .table)
+
+abbrev pub assembleCall : List ℕ → List ℕ → List ℕ → Filled
+assembleCall source table told = ofLength 2 told (assembleFilled (assemble source table)) (filled notItsLength told table)
+
+abbrev pub listFilled : Written → Filled
+listFilled w = filled (numberOfListed (w .answer)) (lengthOfListed (w .answer) ∷ []) (w .bytes)
+
+abbrev pub listCall : Program → List ℕ → List ℕ → Filled
+listCall p text told = ofLength 1 told (listFilled (list p text)) (filled notItsLength told text)
+
+abbrev pub packFilled : Filed → Filled
+packFilled f = filled (numberOfPacked (f .answer)) (lengthOfPacked (f .answer) ∷ []) (f .output)
+
+abbrev pub packCall : Program → List ℕ → List ℕ → Filled
+packCall p image told = ofLength 1 told (packFilled (pack p image)) (filled notItsLength told image)
+
+abbrev pub unpackCall : List ℕ → List ℕ → List ℕ → Filled
+unpackCall image table told = ofLength 1 told (packFilled (unpack image table)) (filled notItsLength told table)
+
+-- ---- the calls on a machine
+
+-- "A refused reset returns zero registers."
+abbrev pub resetMoved : Started → Moved
+resetMoved s = moved (numberOfReset (s .answer .begun)) (listOf (s .answer .registers)) (s .memory)
+
+abbrev pub resetCall : Program → List ℕ → Memory → Moved
+resetCall p registers m = ofLength 7 registers (resetMoved (reset p m)) (moved broken registers m)
+
+-- "A refused step, step-back .. changes nothing": r are the registers before
+abbrev pub stepMoved : Registers → Stepped → Moved
+stepMoved r s = moved (numberOfStep (s .answer)) (listOf (registersAfter r (s .answer))) (s .memory)
+
+abbrev pub stepCall : Program → List ℕ → Memory → Moved
+stepCall p registers m =
+    ofLength 7 registers (stepMoved (registersOf registers) (step p (registersOf registers) m)) (moved broken registers m)
+
+abbrev pub backCall : Program → List ℕ → Memory → Moved
+backCall p registers m =
+    ofLength 7 registers (stepMoved (registersOf registers) (back p (registersOf registers) m)) (moved broken registers m)
+
+-- "It also tells the number of steps it made."
+abbrev pub runWalked : Ran → Walked
+runWalked r =
+    walked (r .answer .steps ∷ []) (numberOfEnding (r .answer .ending)) (listOf (r .answer .registers)) (r .memory)
+
+abbrev pub runCall : Program → ℕ → List ℕ → Memory → List ℕ → Walked
+runCall p limit registers m told =
+    ofLength 1 told
+    (ofLength 7 registers (runWalked (run p limit (registersOf registers) m)) (walked (0 ∷ []) broken registers m))
+    (walked told notItsLength registers m)

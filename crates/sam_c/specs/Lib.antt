@@ -1,0 +1,2 @@
+-- What each call gives and leaves.
+pub mod Calls

@@ -1,0 +1,163 @@
+// The number of document 01, and the values told, that a refusal or a call's answer stands for.
+use rules::Assembled;
+use rules::Begun;
+use rules::Ending;
+use rules::ImageRefusal;
+use rules::Listed;
+use rules::MachineRefusal;
+use rules::Packed;
+use rules::Step;
+use rules::TextRefusal;
+ghost use mathlib.Core.Path.{_≡_};
+ghost use Rattle.rules.specs.Numbers.{machineNumber, textNumber, imageNumber, numberOfReset, numberOfStep, numberOfEnding, numberOfAssembled, lengthOfAssembled, placeOfAssembled, numberOfListed, lengthOfListed, numberOfPacked, lengthOfPacked};
+
+// 1 to 11.
+pub(crate) fn machine_number(e: MachineRefusal) -> u32
+    ensures { λ r. ⌜ r ≡ machineNumber e ⌝ }
+{
+    match e {
+        MachineRefusal::AlreadyHalted => 1,
+        MachineRefusal::AtEnd => 2,
+        MachineRefusal::TooFewValues => 3,
+        MachineRefusal::WrongTag => 4,
+        MachineRefusal::NoResult => 5,
+        MachineRefusal::BadAddress => 6,
+        MachineRefusal::StackFull => 7,
+        MachineRefusal::HistoryFull => 8,
+        MachineRefusal::NoHistory => 9,
+        MachineRefusal::Broken => 10,
+        MachineRefusal::OutsideSizes => 11,
+    }
+}
+
+// 10, and 21 to 31.
+pub(crate) fn text_number(e: TextRefusal) -> u32
+    ensures { λ r. ⌜ r ≡ textNumber e ⌝ }
+{
+    match e {
+        TextRefusal::BrokenTable => 10,
+        TextRefusal::SourceTooLong => 21,
+        TextRefusal::ForbiddenByte => 22,
+        TextRefusal::NoInstruction => 23,
+        TextRefusal::BadOperand => 24,
+        TextRefusal::OperandRange => 25,
+        TextRefusal::LabelTwice => 26,
+        TextRefusal::LabelUnknown => 27,
+        TextRefusal::TooManyInstructions => 28,
+        TextRefusal::TooManyLabels => 29,
+        TextRefusal::LabelTooLong => 30,
+        TextRefusal::WrongLength => 31,
+    }
+}
+
+// 10, 31, and 41 to 45.
+pub(crate) fn image_number(e: ImageRefusal) -> u32
+    ensures { λ r. ⌜ r ≡ imageNumber e ⌝ }
+{
+    match e {
+        ImageRefusal::TableBroken => 10,
+        ImageRefusal::OutputLength => 31,
+        ImageRefusal::EndsEarly => 41,
+        ImageRefusal::CountTooHigh => 42,
+        ImageRefusal::CodeTooHigh => 43,
+        ImageRefusal::OperandOutside => 44,
+        ImageRefusal::BadPadding => 45,
+    }
+}
+
+// The number of a reset.
+pub(crate) fn reset_number(begun: Begun) -> u32
+    ensures { λ r. ⌜ r ≡ numberOfReset begun ⌝ }
+{
+    match begun {
+        Begun::Ready => 0,
+        Begun::NotReady(e) => machine_number(e),
+    }
+}
+
+// The number of a step and of a step-back.
+pub(crate) fn step_number(step: Step) -> u32
+    ensures { λ r. ⌜ r ≡ numberOfStep step ⌝ }
+{
+    match step {
+        Step::Next(_) => 0,
+        Step::Refused(e) => machine_number(e),
+    }
+}
+
+// The number of a run's ending.
+pub(crate) fn ending_number(ending: Ending) -> u32
+    ensures { λ r. ⌜ r ≡ numberOfEnding ending ⌝ }
+{
+    match ending {
+        Ending::Halted => 0,
+        Ending::LimitReached => 50,
+        Ending::Stopped(e) => machine_number(e),
+    }
+}
+
+// The number, the length and the place of an assembler's answer.
+pub(crate) fn assembled_number(assembled: Assembled) -> u32
+    ensures { λ r. ⌜ r ≡ numberOfAssembled assembled ⌝ }
+{
+    match assembled {
+        Assembled::Made(_) => 0,
+        Assembled::Fault(e, _) => text_number(e),
+    }
+}
+
+pub(crate) fn assembled_length(assembled: Assembled) -> usize
+    ensures { λ r. ⌜ r ≡ lengthOfAssembled assembled ⌝ }
+{
+    match assembled {
+        Assembled::Made(length) => length,
+        Assembled::Fault(_, _) => 0,
+    }
+}
+
+pub(crate) fn assembled_place(assembled: Assembled) -> usize
+    ensures { λ r. ⌜ r ≡ placeOfAssembled assembled ⌝ }
+{
+    match assembled {
+        Assembled::Made(_) => 0,
+        Assembled::Fault(_, place) => place,
+    }
+}
+
+// The number and the length of a lister's answer.
+pub(crate) fn listed_number(listed: Listed) -> u32
+    ensures { λ r. ⌜ r ≡ numberOfListed listed ⌝ }
+{
+    match listed {
+        Listed::Told(_) => 0,
+        Listed::Failed(e) => text_number(e),
+    }
+}
+
+pub(crate) fn listed_length(listed: Listed) -> usize
+    ensures { λ r. ⌜ r ≡ lengthOfListed listed ⌝ }
+{
+    match listed {
+        Listed::Told(length) => length,
+        Listed::Failed(_) => 0,
+    }
+}
+
+// The number and the length of a packer's or an unpacker's answer.
+pub(crate) fn packed_number(packed: Packed) -> u32
+    ensures { λ r. ⌜ r ≡ numberOfPacked packed ⌝ }
+{
+    match packed {
+        Packed::Length(_) => 0,
+        Packed::Denied(e) => image_number(e),
+    }
+}
+
+pub(crate) fn packed_length(packed: Packed) -> usize
+    ensures { λ r. ⌜ r ≡ lengthOfPacked packed ⌝ }
+{
+    match packed {
+        Packed::Length(length) => length,
+        Packed::Denied(_) => 0,
+    }
+}

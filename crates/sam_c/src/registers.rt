@@ -1,0 +1,47 @@
+// The seven registers in a lent slice, in the order N, H, PC, SP, FBR, HALT, U.
+use rules::Registers;
+use rules::Step;
+ghost use mathlib.Core.Path.{_≡_};
+ghost use lib.ListN.{length};
+ghost use Rattle.rules.specs.Numbers.{registersAfter};
+ghost use Rattle.sam_c.specs.Calls.{listOf, registersOf};
+
+// Reads them.
+pub(crate) fn read(registers: &[u64]) -> Registers
+    requires { ⌜ length (now registers) ≡ 7 ⌝ }
+    ensures { λ r. ⌜ r ≡ registersOf (now (registers .entry)) ⌝ }
+{
+    Registers {
+        n: registers[0] as usize,
+        h: registers[1] as usize,
+        pc: registers[2] as usize,
+        sp: registers[3] as usize,
+        fbr: registers[4] as usize,
+        halt: registers[5] as usize,
+        used: registers[6] as usize,
+    }
+}
+
+// Writes them.
+pub(crate) fn write(registers: &mut [u64], r: Registers)
+    requires { ⌜ length (now registers) ≡ 7 ⌝ }
+    ensures { λ _. ⌜ now (registers .exit) ≡ listOf r ⌝ }
+{
+    registers[0] = r.n as u64;
+    registers[1] = r.h as u64;
+    registers[2] = r.pc as u64;
+    registers[3] = r.sp as u64;
+    registers[4] = r.fbr as u64;
+    registers[5] = r.halt as u64;
+    registers[6] = r.used as u64;
+}
+
+// Those after a step or a step-back: where it is refused, those before it.
+pub(crate) fn after(r: Registers, step: Step) -> Registers
+    ensures { λ a. ⌜ a ≡ registersAfter r step ⌝ }
+{
+    match step {
+        Step::Next(next) => next,
+        Step::Refused(_) => r,
+    }
+}

@@ -1,0 +1,28 @@
+// The step-back for C.
+use crate::numbers;
+use crate::registers;
+ghost use mathlib.Core.Path.{_≡_};
+ghost use Rattle.rules.specs.Table.{program};
+ghost use Rattle.rules.specs.State.{memory};
+ghost use Rattle.sam_c.specs.Calls.{moved, backCall};
+
+// Takes the last step back.
+#[no_mangle]
+pub extern "C" fn sam_step_back(
+    table: &[u64],
+    length: u64,
+    registers: &mut [u64],
+    bits: &mut [u32],
+    tags: &mut [u8],
+    history: &mut [u64],
+) -> u32
+    ensures { λ a. ⌜ moved a (now (registers .exit)) (memory (now (bits .exit)) (now (tags .exit)) (now (history .exit))) ≡ backCall (program (now (table .entry)) length) (now (registers .entry)) (memory (now (bits .entry)) (now (tags .entry)) (now (history .entry))) ⌝ }
+{
+    if registers.len() != 7 {
+        return 10;
+    }
+    let r = registers::read(registers);
+    let answer = back::step_back(table, length as usize, r, bits, tags, history);
+    registers::write(registers, registers::after(r, answer));
+    numbers::step_number(answer)
+}
