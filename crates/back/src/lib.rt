@@ -83,13 +83,13 @@ fn restore(bits: &mut [u32], tags: &mut [u8], cells: &[u64])
     ensures { λ _. ⌜ now (bits .exit) ≡ restored cellBits (now (cells .entry)) (now (bits .entry)) ⌝ }
     ensures { λ _. ⌜ now (tags .exit) ≡ restored cellTag (now (cells .entry)) (now (tags .entry)) ⌝ }
 {
-    let mut i = 0;
-    while i < cells.len() {
-        let place = cells[i];
+    let mut cell = 0;
+    while cell < cells.len() {
+        let place = cells[cell];
         let address = places::cell_address(place);
         bits[address] = places::cell_bits(place);
         tags[address] = places::cell_tag(place);
-        i += 1;
+        cell += 1;
     }
 }
 

@@ -1,2 +1,4 @@
 pub mod Writing
 pub mod Reported
+pub mod ConsoleRun
+pub mod Printed

@@ -2,6 +2,7 @@
 mod lines;
 mod numbers;
 mod report;
+mod values;
 mod words;
 
 use rules::Assembled;

@@ -1,11 +1,9 @@
 // The lines that the console prints.
+use crate::values::put_value;
 use crate::words::put_number;
 use crate::words::put_tag;
-use crate::words::put_value;
 use crate::words::put_word;
-use rules::Registers;
-ghost use mathlib.Core.Path.{_≡_};
-ghost use mathlib.Core.List.{[], _∷_, _++_};
+ghost use mathlib.Core.List.{[], _∷_};
 ghost use Prim.Native.Nat.{_≤_};
 ghost use Rattle.rules.specs.Lists.{text};
 ghost use Rattle.rules.specs.Listing.{decimal};
@@ -31,7 +29,7 @@ pub(crate) fn put_ending(out: &mut [u8], number: usize, steps: usize) -> usize
     c + put_number(out, c, steps, 10)
 }
 
-// Writes PC, SP and FBR from `at` on, and tells the place after them.
+// Writes PC, SP and FBR from `at` on.
 pub(crate) fn put_registers(out: &mut [u8], at: usize, pc: usize, sp: usize, fbr: usize) -> usize
     requires { ⌜ at ≤ 64 ⌝ }
     ensures { λ r. ⌜ Put (now (out .entry)) (now (out .exit)) at (line (text "PC" ∷ decimal 9 pc ∷ text "SP" ∷ decimal 9 sp ∷ text "FBR" ∷ decimal 9 fbr ∷ [])) r ⌝ }

@@ -49,5 +49,14 @@ pub(crate) fn put_run(out: &mut [u8], table: &[u64], length: usize) -> usize
     let mut history = [0u64; 0];
     let start = state::reset(table, length, &mut bits, &mut tags, &mut history);
     let registers = start.registers;
-    registers.sp
+    let ran = machine::run::run(
+        table,
+        length,
+        registers,
+        &mut bits,
+        &mut tags,
+        &mut history,
+        100000,
+    );
+    put_report(out, ran, &bits, &tags)
 }

@@ -1,10 +1,8 @@
-// The words of a line, each with the byte after it: a space, or at the last word LF.
-ghost use mathlib.Core.Path.{_≡_};
+// The words of a line, each with the byte after it.
 ghost use mathlib.Core.List.{[], _∷_, _++_};
-ghost use Prim.Native.Nat.{_≤_};
-ghost use Rattle.rules.specs.Bytes.{space, hash, LF};
-ghost use Rattle.rules.specs.Listing.{decimal, signedText, hex};
-ghost use Rattle.rules.specs.Console.{tagName, valueText};
+ghost use Rattle.rules.specs.Bytes.{space};
+ghost use Rattle.rules.specs.Listing.{decimal};
+ghost use Rattle.rules.specs.Console.{tagName};
 ghost use Rattle.digits.specs.Put.{Put};
 
 // Writes a word and the byte after it.
@@ -43,38 +41,4 @@ pub(crate) fn put_tag(out: &mut [u8], at: usize, tag: u8) -> usize
     }
     digits::put_byte(out, at, 0, 32);
     1
-}
-
-// Writes the bits of a FLOAT, and LF.
-fn put_pattern(out: &mut [u8], at: usize, bits: u32) -> usize
-    requires { ⌜ at ≤ 64 ⌝ }
-    ensures { λ r. ⌜ Put (now (out .entry)) (now (out .exit)) at ((hash ∷ hex 8 bits) ++ LF ∷ []) r ⌝ }
-{
-    digits::put_byte(out, at, 0, 35);
-    let n = digits::put_hex(out, at + 1, bits);
-    digits::put_byte(out, at, n + 1, 10);
-    n + 2
-}
-
-// Writes a signed number, and LF.
-fn put_signed(out: &mut [u8], at: usize, bits: u32) -> usize
-    ensures { λ r. ⌜ Put (now (out .entry)) (now (out .exit)) at (signedText bits ++ LF ∷ []) r ⌝ }
-{
-    let n = digits::put_signed(out, at, bits);
-    digits::put_byte(out, at, n, 10);
-    n + 1
-}
-
-// Writes the value of a cell, and LF.
-pub(crate) fn put_value(out: &mut [u8], at: usize, bits: u32, tag: u8) -> usize
-    requires { ⌜ at ≤ 64 ⌝ }
-    ensures { λ r. ⌜ Put (now (out .entry)) (now (out .exit)) at (valueText bits tag ++ LF ∷ []) r ⌝ }
-{
-    if tag == 1 {
-        return put_pattern(out, at, bits);
-    }
-    if tag == 3 {
-        return put_number(out, at, bits as usize, 10);
-    }
-    put_signed(out, at, bits)
 }

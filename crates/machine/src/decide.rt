@@ -1,7 +1,8 @@
 // What the instruction at a table's place decides: the one dispatch over the fifty codes, each to its family.
 ghost use mathlib.Core.Path.{_≡_};
 ghost use mathlib.Core.List.{[]};
-ghost use Rattle.rules.specs.State.{memory};
+ghost use Prim.Native.Nat.{ℕ, _≤_};
+ghost use Rattle.rules.specs.State.{Memory, memory};
 ghost use Rattle.rules.specs.Instructions.{actionOf};
 ghost use Rattle.rules.specs.Decide.{onValues};
 ghost use Rattle.rules.specs.Step.{decideAt};
@@ -13,36 +14,23 @@ use rules::Cell;
 use rules::Decision;
 use rules::Registers;
 
-// The decision of a code with its operand, on the two top values. A code past the last does what STOP does; no sound table has one.
-fn by_code(
-    code: usize,
-    n: u32,
-    r: Registers,
-    vb: Cell,
-    vt: Cell,
-    bits: &[u32],
-    tags: &[u8],
-) -> Decision
-    requires { ⌜ Small r ⌝ }
-    ensures { λ d. ⌜ d ≡ onValues r (memory (now (bits .entry)) (now (tags .entry)) []) n vb vt (actionOf code) ⌝ }
+// The decision of an instruction that computes on the two top values, 5 to 33. A code past the last does what STOP does; no sound table has one.
+fn on_results(code: usize, r: Registers, vb: Cell, vt: Cell) -> Decision
+    requires { ⌜ Small r × ((5 ≤ code) × (34 ≤ code → 50 ≤ code)) ⌝ }
+    ensures { λ d. ⌜ ((m : Memory) (n : ℕ) → d ≡ onValues r m n vb vt (actionOf code)) ⌝ }
 {
     let b = vb.bits;
     let t = vt.bits;
     match code {
-        0 => Decision::Does(effects::halted(r)),
-        1 => families::on_push(r, effects::int_cell(n)),
-        2 => families::on_push(r, effects::float_cell(n)),
-        3 => families::on_dup(r, vt),
-        4 => families::on_swap(r, vb, vt),
         5 => families::on_sums(word::integers::plus(b, t), r, vb, vt),
         6 => families::on_sums(word::integers::minus(b, t), r, vb, vt),
         7 => families::on_ints(word::integers::times(b, t), r, vb, vt),
         8 => families::on_divides(word::integers::quotient(b, t), r, vb, vt),
         9 => families::on_divides(word::integers::remainder(b, t), r, vb, vt),
-        10 => families::on_floats(word::floats::plus_f(b, t), r, vb, vt),
-        11 => families::on_floats(word::floats::minus_f(b, t), r, vb, vt),
-        12 => families::on_floats(word::floats::times_f(b, t), r, vb, vt),
-        13 => families::on_floats(word::floats::quotient_f(b, t), r, vb, vt),
+        10 => families::on_floats(floats::plus_f(b, t), r, vb, vt),
+        11 => families::on_floats(floats::minus_f(b, t), r, vb, vt),
+        12 => families::on_floats(floats::times_f(b, t), r, vb, vt),
+        13 => families::on_floats(floats::quotient_f(b, t), r, vb, vt),
         14 => families::on_ints(word::logic::and(b, t), r, vb, vt),
         15 => families::on_ints(word::logic::or(b, t), r, vb, vt),
         16 => families::on_ints(word::logic::nand(b, t), r, vb, vt),
@@ -63,6 +51,29 @@ fn by_code(
         31 => families::on_is_nil(r, vt),
         32 => families::on_one(word::tests::is_pos(t), r, vt),
         33 => families::on_one(word::tests::is_neg(t), r, vt),
+        _ => Decision::Does(effects::halted(r)),
+    }
+}
+
+// The decision of a code with its operand, on the two top values. One that moves a value or a register has its arm here.
+fn by_code(
+    code: usize,
+    n: u32,
+    r: Registers,
+    vb: Cell,
+    vt: Cell,
+    bits: &[u32],
+    tags: &[u8],
+) -> Decision
+    requires { ⌜ Small r ⌝ }
+    ensures { λ d. ⌜ d ≡ onValues r (memory (now (bits .entry)) (now (tags .entry)) []) n vb vt (actionOf code) ⌝ }
+{
+    match code {
+        0 => Decision::Does(effects::halted(r)),
+        1 => families::on_push(r, effects::int_cell(n)),
+        2 => families::on_push(r, effects::float_cell(n)),
+        3 => families::on_dup(r, vt),
+        4 => families::on_swap(r, vb, vt),
         34 => families::on_push(r, effects::memory_cell(r.sp as u32)),
         35 => families::on_pop_sp(r, vt),
         36 => families::on_push(r, effects::memory_cell(r.fbr as u32)),
@@ -79,7 +90,7 @@ fn by_code(
         47 => families::on_jsr(r, n),
         48 => families::on_jsr_ind(r, vt),
         49 => families::on_push(r, effects::program_cell(n)),
-        _ => Decision::Does(effects::halted(r)),
+        _ => on_results(code, r, vb, vt),
     }
 }
 

@@ -121,10 +121,10 @@ pub(crate) fn on_compare_floats(r: Registers, below: Cell, top: Cell) -> Decisio
     if top.tag != 1 {
         return Decision::Refuses(MachineRefusal::WrongTag);
     }
-    if word::floats::unordered(below.bits, top.bits) {
+    if floats::unordered(below.bits, top.bits) {
         return Decision::Refuses(MachineRefusal::NoResult);
     }
-    let v = word::floats::ordered_f(below.bits, top.bits);
+    let v = floats::ordered_f(below.bits, top.bits);
     Decision::Does(effects::result(r, 2, Cell { bits: v, tag: 0 }))
 }
 

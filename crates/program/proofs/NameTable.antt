@@ -9,8 +9,7 @@ use lib.ListN.{length, getD, List·getD-map, List·getD-eq-default}
 use borrow.Author.Tests.{eqb-true, leb-true}
 use Rattle.rules.specs.Lists.{text, all}
 use Rattle.rules.specs.Instructions.{rows, names, nameOf}
-use Rattle.rules.proofs.Tests.{and-left, and-right}
-use Rattle.program.proofs.Rows.{each, each-at}
+use Rattle.rules.proofs.Tests.{and-left, and-right, below, at-below}
 
 abbrev pub flat : List ℕ
 flat =
@@ -109,10 +108,10 @@ name-end c i h = List·getD-eq-default (nameOf c) 0 h
 
 -- ---- bytes
 
-byteRight : ℕ → ℕ → Bool
-byteRight k x = eqb x (getD (nameOf (k / 9)) (k % 9) 0)
+byteRight : ℕ → Bool
+byteRight k = eqb (getD flat k 0) (getD (nameOf (k / 9)) (k % 9) 0)
 
-bytes-right : each 0 byteRight 0 flat ≡ true
+bytes-right : below byteRight (length flat) ≡ true
 unfolding byteRight nameOf names rows text
 bytes-right = refl
 
@@ -122,6 +121,5 @@ byte-at c i h k =
     let p : (c * 9 + i) / 9 ≡ c = omega arith in
     let q : (c * 9 + i) % 9 ≡ i = omega arith in
     let l : c * 9 + i < length flat = omega arith in
-    eqb-true (getD flat (c * 9 + i) 0) (getD (nameOf ((c * 9 + i) / 9)) ((c * 9 + i) % 9) 0) (each-at 0 byteRight flat bytes-right (c * 9 + i) l)
-    ∙ ap (λ (n : ℕ). getD (nameOf n) ((c * 9 + i) % 9) 0) p
-    ∙ ap (λ (n : ℕ). getD (nameOf c) n 0) q
+    eqb-true (getD flat (c * 9 + i) 0) (getD (nameOf ((c * 9 + i) / 9)) ((c * 9 + i) % 9) 0) (at-below byteRight (length flat) bytes-right (c * 9 + i) l)
+    ∙ ap (λ (n : ℕ). getD (nameOf n) ((c * 9 + i) % 9) 0) p ∙ ap (λ (n : ℕ). getD (nameOf c) n 0) q

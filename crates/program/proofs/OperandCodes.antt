@@ -1,15 +1,15 @@
 -- The codes that have an operand are nine; every other code has none. Assumes nothing.
-use Prim.Native.Nat.{ℕ}
+use Prim.Native.Nat.{ℕ, _≤_}
 use mathlib.Core.Path.{_≡_, refl, sym, ap, _∙_}
 use mathlib.Core.Bool.{Bool, true, false, _||_, false≢true}
 use mathlib.Core.List.{List, [], _∷_}
 use lib.Dec.{eqb, ltb}
-use lib.ListN.{length, List·getD-eq-default}
+use lib.ListN.{List·getD-eq-default}
 use borrow.Author.Tests.{ltb-true, ltb-false, ne-eqb}
 use Rattle.rules.specs.Instructions.{Row, rows, rowOf, kindOf, codes}
 use Rattle.rules.specs.declared.Kind.{Kind}
 use Rattle.rules.specs.declared.Kind.the-variants.{Bare, Immediate, Pattern, Offset, Target}
-use Rattle.program.proofs.Rows.{each, each-at}
+use Rattle.rules.proofs.Tests.{by-test, below, at-below}
 
 isBare : Kind → Bool
 isBare Bare = true
@@ -45,25 +45,22 @@ unfolding oneOf
 none-one [] c n = refl
 none-one (x ∷ xs) c n = rw (ne-eqb c x (n .1), none-one xs c (n .0))
 
-rowRight : ℕ → Row → Bool
-rowRight c r = oneOf operandCodes c || isBare (r .kind)
+codeRight : ℕ → Bool
+codeRight c = oneOf operandCodes c || isBare (kindOf c)
 
-rows-right : each (rowOf codes) rowRight 0 rows ≡ true
-unfolding rowRight oneOf isBare rows rowOf
-rows-right = refl
+codes-right : below codeRight codes ≡ true
+unfolding codeRight oneOf isBare kindOf rowOf rows
+codes-right = refl
 
-by-test : {A : Type 0} (b : Bool) → (b ≡ true → A) → (b ≡ false → A) → A
-by-test true f g = f refl
-by-test false f g = g refl
-
-length-rows : length rows ≡ 50
-unfolding rows
-length-rows = refl
+past-bare : (c : ℕ) → codes ≤ c → kindOf c ≡ Bare
+unfolding kindOf rowOf rows
+past-bare c h = ap (λ (r : Row). r .kind) (List·getD-eq-default rows _ h)
 
 pub bare-elsewhere : (c : ℕ) → NoneOf operandCodes c → kindOf c ≡ Bare
-unfolding kindOf rowOf rowRight rows
+unfolding codeRight
 bare-elsewhere c n =
-    by-test (ltb c (length rows))
-    (λ h. bare-is (kindOf c)
-    (sym (ap (λ (b : Bool). b || isBare (kindOf c)) (none-one operandCodes c n)) ∙ each-at (rowOf codes) rowRight rows rows-right c (ltb-true c (length rows) h)))
-    (λ h. ap (λ (r : Row). r .kind) (List·getD-eq-default rows _ (ltb-false c (length rows) h)))
+    by-test (ltb c codes)
+    (λ h.
+    bare-is (kindOf c)
+    (sym (ap (λ (b : Bool). b || isBare (kindOf c)) (none-one operandCodes c n)) ∙ at-below codeRight codes codes-right c (ltb-true c codes h)))
+    (λ h. past-bare c (ltb-false c codes h))

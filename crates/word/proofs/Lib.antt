@@ -6,4 +6,3 @@ mod Modulus
 mod Halves
 mod Divide
 mod Unlike
-mod Nan

@@ -42,7 +42,7 @@ pub fn greater(b: u32, t: u32) -> u32
 }
 
 // The answer of CMP and CMPF, from the tests Vb < Vt and Vb > Vt: 1 if Vb < Vt, 0 if equal, -1 if Vb > Vt.
-pub(crate) fn sense(less: bool, greater: bool) -> u32
+pub fn sense(less: bool, greater: bool) -> u32
     ensures { λ r. ⌜ r ≡ sense less greater ⌝ }
 {
     if less {

@@ -12,13 +12,13 @@ use Rattle.back.proofs.restore.Statement.{statement}
 use Rattle.back.proofs.restore.Tie as tie
 
 abbrev Inv-loop : tie.InvT-loop
-Inv-loop bits₀ tags₀ cells i₀ bits tags i =
-    (i ≤ length cells) × (length bits ≡ length bits₀) × (length tags ≡ length tags₀)
-    × (restored cellBits (drop i cells) bits ≡ restored cellBits cells bits₀)
-    × (restored cellTag (drop i cells) tags ≡ restored cellTag cells tags₀)
+Inv-loop bits₀ tags₀ cells cell₀ bits tags cell =
+    (cell ≤ length cells) × (length bits ≡ length bits₀) × (length tags ≡ length tags₀)
+    × (restored cellBits (drop cell cells) bits ≡ restored cellBits cells bits₀)
+    × (restored cellTag (drop cell cells) tags ≡ restored cellTag cells tags₀)
 
 abbrev μ-loop : tie.MeasureT-loop
-μ-loop bits₀ tags₀ cells i₀ bits tags i = length cells - i
+μ-loop bits₀ tags₀ cells cell₀ bits tags cell = length cells - cell
 
 loop-holds : tie.Need-loop-holds Inv-loop μ-loop
 loop-holds c = search needs
@@ -36,12 +36,12 @@ cell-bits-requires : tie.Need-cell-bits-requires Inv-loop μ-loop
 cell-bits-requires c κs = search needs
 
 mul-bits : tie.Need-mul-bits Inv-loop μ-loop
-mul-bits c = omega (arith, c .before .cell-address .ensures, cellAddress-is (getD (c .before .before .before .before .before .before .before .before .args .cells .now) (c .before .before .before .before .loop .i) 0))
+mul-bits c = omega (arith, c .before .cell-address .ensures, cellAddress-is (getD (c .before .before .before .before .before .before .before .before .args .cells .now) (c .before .before .before .before .loop .cell) 0))
 
 slice-write-bits : tie.Need-slice-write-bits Inv-loop μ-loop
 slice-write-bits c =
     let l = c .before .before .before .before .loop in
-    omega (arith, c .before .before .before .before .before .before .before .before .pre .1 (l .i) (c .before .before .before .loop-test .taken), c .before .cell-address .ensures, l .inv)
+    omega (arith, c .before .before .before .before .before .before .before .before .pre .1 (l .cell) (c .before .before .before .loop-test .taken), c .before .cell-address .ensures, l .inv)
 
 cell-tag-requires : tie.Need-cell-tag-requires Inv-loop μ-loop
 cell-tag-requires c κs = search needs
@@ -49,10 +49,10 @@ cell-tag-requires c κs = search needs
 slice-write-tags : tie.Need-slice-write-tags Inv-loop μ-loop
 slice-write-tags c =
     let l = c .before .before .before .before .before .loop in
-    omega (arith, c .before .before .before .before .before .before .before .before .before .pre .0, c .before .before .before .before .before .before .before .before .before .pre .1 (l .i) (c .before .before .before .before .loop-test .taken), c .before .before .cell-address .ensures, l .inv)
+    omega (arith, c .before .before .before .before .before .before .before .before .before .pre .0, c .before .before .before .before .before .before .before .before .before .pre .1 (l .cell) (c .before .before .before .before .loop-test .taken), c .before .before .cell-address .ensures, l .inv)
 
-add-i : tie.Need-add-i Inv-loop μ-loop
-add-i c = search needs
+add-cell : tie.Need-add-cell Inv-loop μ-loop
+add-cell c = search needs
 
 loop-less : tie.Need-loop-less Inv-loop μ-loop
 loop-less c = search needs
@@ -66,10 +66,10 @@ loop-again c =
       omega (arith, test),
       length-set (l .bits) (at .result) (c .before .cell-bits .result) ∙ l .inv .1,
       length-set (l .tags) (at .result) (c .cell-tag .result) ∙ l .inv .2,
-      (λ i. restored cellBits (drop (l .i + 1) (a .cells .now)) (set (l .bits) (at .ensures i) (c .before .cell-bits .ensures i)))
-          ∙ sym (restored-next cellBits (a .cells .now) (l .i) (l .bits) test) ∙ l .inv .3,
-      (λ i. restored cellTag (drop (l .i + 1) (a .cells .now)) (set (l .tags) (at .ensures i) (c .cell-tag .ensures i)))
-          ∙ sym (restored-next cellTag (a .cells .now) (l .i) (l .tags) test) ∙ l .inv .4,
+      (λ i. restored cellBits (drop (l .cell + 1) (a .cells .now)) (set (l .bits) (at .ensures i) (c .before .cell-bits .ensures i)))
+          ∙ sym (restored-next cellBits (a .cells .now) (l .cell) (l .bits) test) ∙ l .inv .3,
+      (λ i. restored cellTag (drop (l .cell + 1) (a .cells .now)) (set (l .tags) (at .ensures i) (c .cell-tag .ensures i)))
+          ∙ sym (restored-next cellTag (a .cells .now) (l .cell) (l .tags) test) ∙ l .inv .4,
     )
 
 same-length : tie.Need-same-length Inv-loop μ-loop
@@ -82,8 +82,8 @@ returns : tie.Need-returns Inv-loop μ-loop
 returns c =
     let a = c .before .before .before .before .before .args in
     let l = c .before .loop in (
-      sym (restored-done cellBits (a .cells .now) (l .i) (l .bits) (c .loop-test .left)) ∙ l .inv .3,
-      sym (restored-done cellTag (a .cells .now) (l .i) (l .tags) (c .loop-test .left)) ∙ l .inv .4,
+      sym (restored-done cellBits (a .cells .now) (l .cell) (l .bits) (c .loop-test .left)) ∙ l .inv .3,
+      sym (restored-done cellTag (a .cells .now) (l .cell) (l .tags) (c .loop-test .left)) ∙ l .inv .4,
     )
 
 pub restore-spec : {M : Type 1} → statement M
@@ -101,7 +101,7 @@ restore-spec =
     slice-write-bits
     cell-tag-requires
     slice-write-tags
-    add-i
+    add-cell
     loop-less
     loop-again
     same-length

@@ -1,5 +1,5 @@
 -- `print` meets its contract: what the assembler answers decides what is written over the zeros. Assumes nothing.
-use Rattle.console.proofs.Reported as law
+use Rattle.console.proofs.Printed as law
 use borrow.Author.Needs.{needs}
 use Rattle.console.proofs.print.Statement.{statement}
 use Rattle.console.proofs.print.Tie as tie

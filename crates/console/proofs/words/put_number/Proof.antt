@@ -3,7 +3,7 @@ use Prim.Native.Nat.{_+_}
 use mathlib.Core.Path.{refl}
 use native.Mathlib.Omega.{arith}
 use Rattle.rules.specs.Listing.{decimal}
-use Rattle.rules.proofs.Texts.{length-decimal, length-signed, length-hex}
+use Rattle.rules.proofs.Texts.{length-decimal}
 use Rattle.lister.proofs.Writing.{put-last}
 use borrow.Author.Needs.{needs}
 use Rattle.console.proofs.words.put_number.Statement.{statement}

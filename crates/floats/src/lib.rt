@@ -1,0 +1,83 @@
+// The F operations on words, each by one operation of f32 between the value of the bits and the bits of the value.
+// f32's own readings are undefined at a NaN, so that a NaN is told apart before and after.
+ghost use mathlib.Core.Path.{_≡_};
+ghost use lib.Ieee.{binary32, ofBits, toBits, isNan};
+ghost use Rattle.rules.specs.Floats.{plusF, minusF, timesF, quotientF, unordered, orderedF};
+use word::tests::sense;
+
+// Whether the bits are a NaN's: without the sign, above those of an infinity.
+fn is_nan(b: u32) -> bool
+    ensures { λ r. ⌜ r ≡ isNan (ofBits binary32 b) ⌝ }
+{
+    b % 2147483648 > 2139095040
+}
+
+// The value that the bits stand for.
+fn value_of(b: u32) -> f32
+    ensures { λ r. ⌜ r ≡ ofBits binary32 b ⌝ }
+{
+    if is_nan(b) {
+        0.0 / 0.0
+    } else {
+        f32::from_bits(b)
+    }
+}
+
+// The bits of a value, #7FC00000 of a NaN.
+fn bits_of(x: f32) -> u32
+    ensures { λ r. ⌜ r ≡ toBits binary32 x ⌝ }
+{
+    if x != x { 2143289344 } else { f32::to_bits(x) }
+}
+
+// ADDF: the sum, rounded once.
+pub fn plus_f(b: u32, t: u32) -> u32
+    ensures { λ r. ⌜ r ≡ plusF b t ⌝ }
+{
+    let x = value_of(b);
+    let y = value_of(t);
+    bits_of(x + y)
+}
+
+// SUBF: the difference, rounded once.
+pub fn minus_f(b: u32, t: u32) -> u32
+    ensures { λ r. ⌜ r ≡ minusF b t ⌝ }
+{
+    let x = value_of(b);
+    let y = value_of(t);
+    bits_of(x - y)
+}
+
+// TIMESF: the product, rounded once.
+pub fn times_f(b: u32, t: u32) -> u32
+    ensures { λ r. ⌜ r ≡ timesF b t ⌝ }
+{
+    let x = value_of(b);
+    let y = value_of(t);
+    bits_of(x * y)
+}
+
+// DIVF: the quotient, rounded once.
+pub fn quotient_f(b: u32, t: u32) -> u32
+    ensures { λ r. ⌜ r ≡ quotientF b t ⌝ }
+{
+    let x = value_of(b);
+    let y = value_of(t);
+    bits_of(x / y)
+}
+
+// Whether CMPF has no answer: one of the two is a NaN.
+pub fn unordered(b: u32, t: u32) -> bool
+    ensures { λ r. ⌜ r ≡ unordered b t ⌝ }
+{
+    is_nan(b) | is_nan(t)
+}
+
+// CMPF: CMP of the values. With a NaN, which a step refuses, it is 0.
+pub fn ordered_f(b: u32, t: u32) -> u32
+    ensures { λ r. ⌜ r ≡ orderedF b t ⌝ }
+{
+    let x = value_of(b);
+    let y = value_of(t);
+    sense(x < y, y < x)
+}
