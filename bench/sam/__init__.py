@@ -1,4 +1,4 @@
-"""An interpreter of document 01, written from the document alone, to compare the proved one with."""
+"""An interpreter of document 01, written from the document and its settled readings, to compare the proved one with."""
 
 from .console import cell_line, console
 from .image import pack, unpack
