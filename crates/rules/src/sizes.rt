@@ -1,0 +1,27 @@
+// The sizes that document 01 names, each as the definition of that name in specs/Sizes.antt.
+
+// "Source 0 to 65,536 bytes; program 0 to 1,024 instructions; 256 labels; label 1 to 32 bytes."
+pub const MAX_SOURCE: usize = 65_536;
+
+pub const MAX_PROGRAM: usize = 1_024;
+
+pub const MAX_LABELS: usize = 256;
+
+pub const MAX_LABEL: usize = 32;
+
+// "N cells, 1 to 1,000."
+pub const MAX_CELLS: usize = 1_000;
+
+// "History of H places, 0 to 8,192."
+pub const MAX_HISTORY: usize = 8_192;
+
+// "Run limit 0 to 1,000,000."
+pub const MAX_LIMIT: usize = 1_000_000;
+
+// "Listing: 20,480 bytes", "Output 4,866 bytes"
+pub const LISTING_SIZE: usize = 20_480;
+
+pub const IMAGE_SIZE: usize = 4_866;
+
+// "ADDSP and offsets −999..999"
+pub const MAX_OFFSET: u32 = 999;
