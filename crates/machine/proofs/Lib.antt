@@ -2,6 +2,7 @@ pub mod Stored
 pub mod Blocks
 pub mod Signed
 pub mod Reach
-pub mod PastEnd
+pub mod Pairs
 pub mod Steps
+pub mod Carries
 pub mod Turns

@@ -1,10 +1,10 @@
 -- The number that 32 bits stand for, in the lower and in the upper half. Assumes nothing.
 use Prim.Native.Nat.{ℕ, suc, _-_, _^_, _≤_, _<_}
 use mathlib.Core.Path.{_≡_, refl, ap, _∙_}
-use mathlib.Core.Bool.{false}
+use mathlib.Core.Bool.{true, false, false≢true}
 use native.Mathlib.Omega.{arith}
-use lib.IntN.{pos, negsuc}
-use borrow.Author.Tests.{le-ltb}
+use lib.IntN.{ℤ, pos, negsuc}
+use borrow.Author.Tests.{le-ltb, ltb-true}
 use mir.Syntax.{w32}
 use mir.Facts.{toZ-pos}
 use Rattle.rules.specs.Words.{signed}
@@ -19,3 +19,8 @@ signed-high b h = rw (le-ltb b (2 ^ 31) h) refl
 -- an address in the upper half is below 0: it lies nowhere
 pub nowhere : (b limit : ℕ) → 2147483648 ≤ b → false ≡ inside (signed b) limit
 nowhere b limit h = rw (signed-high b h) refl
+
+-- an address that lies below a limit is the number's own
+pub inside-below : (z : ℤ) (limit : ℕ) → inside z limit ≡ true → memoryAddress z .0 < limit
+inside-below (pos a) limit h = ltb-true a limit h
+inside-below (negsuc a) limit h = absurd (false≢true h)

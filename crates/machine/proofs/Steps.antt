@@ -5,12 +5,14 @@ use mathlib.Core.Bool.{Bool, true, false}
 use mathlib.Core.List.{List}
 use native.Mathlib.Numerals.{add-one}
 use native.Mathlib.Omega.{arith}
-use lib.ListN.{getD}
+use lib.Arith.{lt-of-le-ne}
+use lib.ListN.{length, getD}
 use lib.Dec.{leb, ltb}
-use borrow.Author.Tests.{lt-ltb, le-ltb, eq-eqb, ne-eqb}
-use Rattle.rules.specs.Table.{Program}
+use borrow.Author.Tests.{lt-ltb, le-ltb, eq-eqb, ne-eqb, ltb-true}
+use Rattle.rules.specs.Instructions.{codes, kindOf}
+use Rattle.rules.specs.Table.{Program, codeOf, operandOf, within, soundPlace}
 use Rattle.rules.specs.State.{Memory, memory, sound}
-use Rattle.rules.specs.Commit.{roomIn, roomFor, registersOf, memoryOf}
+use Rattle.rules.specs.Commit.{roomIn, roomFor, registersOf}
 use Rattle.rules.specs.Decide.{demand}
 use Rattle.rules.specs.Step.{decideAt, fitted, judged, unchanged, carried, step, plainStep}
 use Rattle.rules.specs.declared.Registers.{Registers}
@@ -22,11 +24,13 @@ use Rattle.rules.specs.declared.MachineRefusal.the-variants.{AlreadyHalted, AtE
 use Rattle.rules.specs.declared.Step.{Step}
 use Rattle.rules.specs.declared.Step.the-variants.{Next, Refused}
 use Rattle.rules.proofs.Fair.{Sound}
-use Rattle.rules.proofs.Effects.{sound-facts, judged-going, fair-judged, table-short, table-long}
+use Rattle.rules.proofs.Effects.{sound-facts, fair-place, place-sound, table-short, table-long}
+use Rattle.rules.proofs.Tests.{and-left}
 use Rattle.rules.proofs.Sound.{step-plain, sound-step}
 use Rattle.state.specs.Outcomes.{stepped}
-use Rattle.machine.specs.Ready.{Ready}
-use Rattle.machine.specs.Fits.{Fits}
+use Rattle.machine.specs.Small.{Small}
+use Rattle.machine.specs.Live.{Live}
+use Rattle.machine.specs.Fits.{Open}
 
 -- ---- 7 and 8
 
@@ -75,41 +79,57 @@ module _ (p : Program) (r : Registers) (m : Memory) where
   step-broken h = rw h refl
 
   module _ (s : sound p r m ≡ true) where
-    pub ready : Ready (p .places) (p .count) r
-    ready =
+    pub small : Small r
+    small =
         let f : Sound p r m = sound-facts p r m s in
         let short = table-short p (f .table) in
-        let long = table-long p (f .table) in
-        record {
-          small = (omega (arith, f .pc, short), omega (arith, f .sp, f .few), omega (arith, f .fbr, f .few));
-          pc = f .pc;
-          within = omega (arith, short, long);
-          used = f .used;
-        }
+        (omega (arith, f .pc, short), omega (arith, f .sp, f .few), omega (arith, f .fbr, f .few))
 
-    pub fits : (e : Effect) → judged p r m ≡ Does e → Fits r e m
-    fits e q =
+    pub live : Live r (m .bits) (m .tags)
+    live =
         let f : Sound p r m = sound-facts p r m s in
-        record {
-          cells = f .bits;
-          tagged = f .tags;
-          places = f .history;
-          used = f .used;
-          block = fair-judged p r m e s q .fits;
-          room = judged-going p r m e q .room;
-        }
+        (omega (arith, f .bits, f .sp), f .tags ∙ sym (f .bits))
 
     carries : step p r m ≡ carried r m (judged p r m)
     unfolding plainStep
     carries = step-plain p r m s
 
-    pub step-refuses : (x : MachineRefusal) → judged p r m ≡ Refuses x → step p r m ≡ unchanged m x
-    step-refuses x q = carries ∙ ap (carried r m) q
+    pub step-refuses : (a : Step) (x : MachineRefusal) → a ≡ Refused x → judged p r m ≡ Refuses x → record { answer = a; memory = m } ≡ step p r m
+    step-refuses a x h q = ap (λ (z : Step). record { answer = z; memory = m }) h ∙ sym (carries ∙ ap (carried r m) q)
 
-    pub step-does : (e : Effect) (q : Registers) (bits tags history : List ℕ) → judged p r m ≡ Does e → q ≡ registersOf r e
-        → memory bits tags history ≡ memoryOf r m e → stepped (Next q) bits tags history ≡ step p r m
-    step-does e q bits tags history d eq em =
-        (λ i. record { answer = Next (eq i); memory = em i }) ∙ sym (carries ∙ ap (carried r m) d)
+    -- at an instruction
+    module _ (running : r .halt ≡ 0) (inside : r .pc ≡ p .count → ⊥) where
+      below : r .pc < p .count
+      below = let f : Sound p r m = sound-facts p r m s in lt-of-le-ne (f .pc) inside
+
+      pub placed : r .pc < length (p .places)
+      placed =
+          let f : Sound p r m = sound-facts p r m s in
+          omega (arith, below, table-short p (f .table), table-long p (f .table))
+
+      abbrev place : ℕ
+      place = getD (p .places) (r .pc) 0
+
+      place-fits : soundPlace (p .count) place ≡ true
+      place-fits = place-sound p (sound-facts p r m s .table) (r .pc) below
+
+      pub coded : codeOf (getD (p .places) (r .pc) 0) < codes
+      unfolding soundPlace
+      coded = ltb-true (codeOf place) codes (and-left (ltb (codeOf place) codes) (within (kindOf (codeOf place)) (p .count) (operandOf place)) place-fits)
+
+      pub opens : (e : Effect) → decideAt r m (getD (p .places) (r .pc) 0) ≡ Does e → Open r e m
+      opens e q =
+          let f : Sound p r m = sound-facts p r m s in
+          record {
+            cells = f .bits;
+            tagged = f .tags;
+            places = f .history;
+            used = f .used;
+            block = λ h. fair-place p r m f below place e place-fits q h .fits;
+          }
+
+      pub step-carries : step p r m ≡ carried r m (fitted r (decideAt r m (getD (p .places) (r .pc) 0)))
+      step-carries = carries ∙ ap (carried r m) (judged-fitted running inside)
 
     -- what an accepted step leaves is sound, and a refused step leaves what was
     module _ (bits tags history : List ℕ) where

@@ -1,25 +1,42 @@
 -- The turns of a run with what is left of the limit as a difference, as the run's loop has it. Assumes nothing.
 use Prim.Native.Nat.{ℕ, zero, suc, _+_, _-_, _≤_, _<_}
-use mathlib.Core.Path.{_≡_, sym, ap, _∙_}
-use mathlib.Core.Bool.{true}
+use mathlib.Core.Path.{_≡_, refl, sym, ap, _∙_}
+use mathlib.Core.Bool.{Bool, true, false}
 use mathlib.Core.List.{List}
 use native.Mathlib.Omega.{arith}
+use lib.Dec.{eqb}
 use borrow.Author.Tests.{eq-eqb, ne-eqb}
 use Rattle.rules.specs.Table.{Program}
 use Rattle.rules.specs.State.{Memory, memory, sound}
-use Rattle.rules.specs.Step.{step}
-use Rattle.rules.specs.Run.{ended, runFrom}
+use Rattle.rules.specs.Step.{Stepped, step}
+use Rattle.rules.specs.Run.{Ran, ended, runFrom}
 use Rattle.rules.specs.declared.Registers.{Registers}
 use Rattle.rules.specs.declared.MachineRefusal.{MachineRefusal}
 use Rattle.rules.specs.declared.Step.{Step}
 use Rattle.rules.specs.declared.Step.the-variants.{Next, Refused}
+use Rattle.rules.specs.declared.Run.{Run}
+use Rattle.rules.specs.declared.Ending.{Ending}
 use Rattle.rules.specs.declared.Ending.the-variants.{Halted, LimitReached, Stopped}
+use Rattle.rules.proofs.Tests.{by-test}
 use Rattle.rules.proofs.Runs.{run-halted, run-limit, run-next, run-refused}
 use Rattle.state.specs.Outcomes.{stepped}
+use Rattle.machine.specs.Outcomes.{ran, onlyStep}
+use Rattle.machine.specs.Turn.{answered, answerOf}
+use Rattle.machine.specs.declared.turn.Turn.{Turn}
 use Rattle.machine.proofs.Steps.{refused-keeps}
 
 pub turn-first : (p : Program) (limit : ℕ) (r : Registers) (m : Memory) → runFrom p (limit - 0) 0 r m ≡ runFrom p limit 0 r m
 turn-first p limit r m = let e : limit - 0 ≡ limit = omega arith in ap (λ (n : ℕ). runFrom p n 0 r m) e
+
+-- ---- a turn's answer
+
+pub turn-made : (t : Turn) → t .made ≡ true → answerOf t ≡ Next (t .registers)
+turn-made t h = ap (λ (b : Bool). answered b (t .refusal) (t .registers)) h
+
+pub turn-stopped : (t : Turn) → t .made ≡ false → answerOf t ≡ Refused (t .refusal)
+turn-stopped t h = ap (λ (b : Bool). answered b (t .refusal) (t .registers)) h
+
+-- ---- the turns of the loop
 
 module _ (p : Program) (limit made : ℕ) (r : Registers) (m : Memory) where
   pub turn-halted : r .halt ≡ 1 → ended made Halted r m ≡ runFrom p (limit - made) made r m
@@ -50,3 +67,35 @@ module _ (p : Program) (limit made : ℕ) (r : Registers) (m : Memory) where
           ∙ sym
           (ap (λ (n : ℕ). runFrom p n made r m) left
           ∙ run-refused p made r m (limit - (made + 1)) (ne-eqb (r .halt) 1 going) x (sym (ap (λ x. x .answer) e) ∙ k))
+
+-- ---- a run of one step is that step
+
+abbrev onceBy : Ran → Stepped
+onceBy ran = record { answer = onlyStep (ran .answer .ending) (ran .answer .registers); memory = ran .memory }
+
+module _ (p : Program) (r : Registers) (m : Memory) (s : sound p r m ≡ true) (going : r .halt ≡ 0) where
+  not-halted : eqb (r .halt) 1 ≡ false
+  not-halted = ne-eqb (r .halt) 1 (omega (arith, going))
+
+  -- after the one step the run ends, halted or not
+  one-left : (q : Registers) (m′ : Memory) → onceBy (runFrom p 0 1 q m′) ≡ record { answer = Next q; memory = m′ }
+  one-left q m′ =
+      by-test (eqb (q .halt) 1)
+      (λ h. ap onceBy (run-halted p 1 q m′ 0 h))
+      (λ h. ap onceBy (run-limit p 1 q m′ h))
+
+  once-by : (a : Step) → step p r m .answer ≡ a → onceBy (runFrom p 1 0 r m) ≡ step p r m
+  once-by (Next q) h =
+      ap onceBy (run-next p 0 r m 0 not-halted q h) ∙ one-left q (step p r m .memory)
+      ∙ ap (λ (z : Step). record { answer = z; memory = step p r m .memory }) (sym h)
+  once-by (Refused x) h =
+      let same = refused-keeps p r m s (step p r m .memory .bits) (step p r m .memory .tags) (step p r m .memory .history) (step p r m .answer) x h refl in
+      ap onceBy (run-refused p 0 r m 0 not-halted x h) ∙ λ i. record { answer = sym h i; memory = sym same i }
+
+  once : onceBy (runFrom p 1 0 r m) ≡ step p r m
+  once = once-by (step p r m .answer) refl
+
+  -- the step's answer, read off the run's
+  pub once-answer : (a : Run) (x : Step) (b t h : List ℕ) → ran a b t h ≡ runFrom p 1 0 r m → x ≡ onlyStep (a .ending) (a .registers)
+      → stepped x b t h ≡ step p r m
+  once-answer a x b t h q k = ap (λ (z : Step). stepped z b t h) k ∙ ap onceBy q ∙ once

@@ -1,8 +1,12 @@
 // The machine: one step, and a run of steps. A step first decides what it does or why it is refused, then carries that out.
 mod addresses;
+mod carry;
+mod cells;
 mod commit;
 mod decide;
 mod effects;
 mod families;
+mod plans;
 pub mod run;
 pub mod step;
+mod turn;

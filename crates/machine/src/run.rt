@@ -1,18 +1,47 @@
 // A run: step after step, until HALT is 1, the limit is made, or a step is refused.
-use crate::step;
+use crate::carry;
+use crate::decide;
+use crate::turn;
+use crate::turn::Turn;
 use rules::Ending;
 use rules::MachineRefusal;
 use rules::Registers;
 use rules::Run;
-use rules::Step;
+use rules::sizes;
 ghost use mathlib.Core.Path.{_≡_};
 ghost use mathlib.Core.Bool.{true};
 ghost use Prim.Native.Nat.{_≤_};
 ghost use Rattle.rules.specs.Sizes.{maxLimit};
 ghost use Rattle.rules.specs.Table.{program};
 ghost use Rattle.rules.specs.State.{memory, sound};
+ghost use Rattle.rules.specs.Step.{step};
 ghost use Rattle.rules.specs.Run.{runFrom, run};
+ghost use Rattle.state.specs.Outcomes.{stepped};
+ghost use Rattle.machine.specs.Turn.{answerOf};
 ghost use Rattle.machine.specs.Outcomes.{ran};
+
+// One step of a sound state, whose soundness is not judged again: 1 to 8 in order, or what the instruction does.
+fn take_turn(
+    table: &[u64],
+    count: usize,
+    r: Registers,
+    bits: &mut [u32],
+    tags: &mut [u8],
+    history: &mut [u64],
+) -> Turn
+    requires { ⌜ sound (program (now table) count) r (memory (now bits) (now tags) (now history)) ≡ true ⌝ }
+    ensures { λ a. ⌜ stepped (answerOf a) (now (bits .exit)) (now (tags .exit)) (now (history .exit)) ≡ step (program (now (table .entry)) count) r (memory (now (bits .entry)) (now (tags .entry)) (now (history .entry))) ⌝ }
+{
+    let pc = r.pc;
+    if r.halt != 0 {
+        return turn::refused(MachineRefusal::AlreadyHalted, r);
+    }
+    if pc == count {
+        return turn::refused(MachineRefusal::AtEnd, r);
+    }
+    let d = decide::decide_at(table[pc], r, bits, tags);
+    carry::carry(r, d, bits, tags, history)
+}
 
 // A run's answer.
 fn ended(made: usize, how: Ending, at: Registers) -> Run
@@ -26,7 +55,7 @@ fn ended(made: usize, how: Ending, at: Registers) -> Run
 }
 
 // The turns of a run from a sound state, whose soundness is not judged again: each accepted step leaves a sound state.
-fn run_from(
+pub(crate) fn run_from(
     table: &[u64],
     count: usize,
     r: Registers,
@@ -46,15 +75,13 @@ fn run_from(
         if at.halt == 1 {
             return ended(made, Ending::Halted, at);
         }
-        let next = step::plain_step(table, count, at, bits, tags, history);
-        match next {
-            Step::Next(registers) => {
-                at = registers;
-            }
-            Step::Refused(refusal) => {
-                return ended(made, Ending::Stopped(refusal), at);
-            }
+        let next = take_turn(table, count, at, bits, tags, history);
+        if !next.made {
+            let refusal = next.refusal;
+            return ended(made, Ending::Stopped(refusal), at);
         }
+        let registers = next.registers;
+        at = registers;
         made += 1;
     }
     if at.halt == 1 {
@@ -77,7 +104,7 @@ pub fn run(
     ensures { λ _. ⌜ memory (now (bits .exit)) (now (tags .exit)) (now (history .exit)) ≡ run (program (now (table .entry)) length) limit r (memory (now (bits .entry)) (now (tags .entry)) (now (history .entry))) .memory ⌝ }
     ensures { λ a. ⌜ a .steps ≤ limit ⌝ }
 {
-    if 1000000 < limit {
+    if sizes::MAX_LIMIT < limit {
         return ended(0, Ending::Stopped(MachineRefusal::OutsideSizes), r);
     }
     let sound = state::is_sound(table, length, r, bits, tags, history);

@@ -396,7 +396,7 @@ pub going-below : (p : Program) (r : Registers) (m : Memory) (e : Effect) → So
 going-below p r m e s g = ⊎-elim (λ q. absurd (g .inside q)) (λ h. h) (eq-or-lt-of-le (s .pc))
 
 -- the instruction at a place that can be assembled
-fair-place : (p : Program) (r : Registers) (m : Memory) (s : Sound p r m) (going : r .pc < p .count) (place : ℕ) (e : Effect)
+pub fair-place : (p : Program) (r : Registers) (m : Memory) (s : Sound p r m) (going : r .pc < p .count) (place : ℕ) (e : Effect)
     → soundPlace (p .count) place ≡ true → decideAt r m place ≡ Does e → e .sp < r .n → Fair p r e
 unfolding decideAt decide
 fair-place p r m s going place e h q l =

@@ -1,5 +1,7 @@
 -- `machine::addresses::on_add_sp` meets its contract. Assumes nothing.
+use mathlib.Core.Path.{ap, _∙_}
 use Rattle.machine.proofs.Reach.{add-to, add-below}
+use Rattle.machine.specs.Plan.{planned}
 use borrow.Author.Needs.{needs}
 use Rattle.machine.proofs.addresses.on_add_sp.Statement.{statement}
 use Rattle.machine.proofs.addresses.on_add_sp.Tie as tie
@@ -16,12 +18,24 @@ moved-requires c κs = search needs
 enum-told : tie.Need-enum-told
 enum-told c = search needs
 
+refuse-requires : tie.Need-refuse-requires
+refuse-requires c κs = search needs
+
 returns : tie.Need-returns
-returns c = rw (c .moved .ensures) (add-to (c .before .before .before .before .before .args .r) (c .before .before .before .before .before .args .offset) (c .before .before .to .given .0 .0) (rw (c .before .before .to .given .1) at (c .before .before .before .before .moved-by .ensures)))
+returns c m = c .moved .ensures m ∙ add-to (c .before .before .before .before .before .args .r) (c .before .before .before .before .before .args .offset) (c .before .before .to .given .0 .0) (rw (c .before .before .to .given .1) at (c .before .before .before .before .moved-by .ensures))
 
 returns-2 : tie.Need-returns-2
-returns-2 c = add-below (c .before .before .before .args .r) (c .before .before .before .args .offset) (rw (c .enum-told .given .1) at (c .before .before .moved-by .ensures))
+unfolding planned
+returns-2 c m = ap (planned (c .before .before .before .before .args .r) m) (c .refuse .ensures) ∙ add-below (c .before .before .before .before .args .r) (c .before .before .before .before .args .offset) (rw (c .before .enum-told .given .1) at (c .before .before .before .moved-by .ensures))
 
 pub on-add-sp-spec : {M : Type 1} → statement M
 on-add-sp-spec =
-    tie.close (tie.spec moved-by-requires enum-known-to moved-requires enum-told returns returns-2)
+    tie.close
+    (tie.spec
+    moved-by-requires
+    enum-known-to
+    moved-requires
+    enum-told
+    refuse-requires
+    returns
+    returns-2)

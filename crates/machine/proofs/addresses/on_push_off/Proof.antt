@@ -1,5 +1,6 @@
 -- `machine::addresses::on_push_off` meets its contract. Assumes nothing.
 use Rattle.machine.proofs.Reach.{frame-in, frame-out, frame-below, frame-at}
+use Rattle.machine.specs.Plan.{planned}
 use borrow.Author.Needs.{needs}
 use Rattle.machine.proofs.addresses.on_push_off.Statement.{statement}
 use Rattle.machine.proofs.addresses.on_push_off.Tie as tie
@@ -17,16 +18,25 @@ result-requires : tie.Need-result-requires
 result-requires c κs = search needs
 
 returns : tie.Need-returns
-returns c = rw (c .result .ensures, c .before .cell-at .ensures, frame-in (c .before .before .before .before .before .before .before .before .before .before .before .args .r) (c .before .before .before .before .before .before .before .before .before .before .before .args .offset) (c .before .before .before .before .before .before .before .before .before .before .before .args .r .sp) (c .before .before .before .before .before .before .to .given .0 .0) (rw (c .before .before .before .before .before .before .to .given .1) at (c .before .before .before .before .before .before .before .before .moved-by .ensures)) (c .before .before .if1 .taken), frame-at (c .before .before .before .before .before .before .before .before .before .before .before .args .r) (c .before .before .before .before .before .before .before .before .before .before .before .args .offset) (c .before .before .before .before .before .before .to .given .0 .0) (rw (c .before .before .before .before .before .before .to .given .1) at (c .before .before .before .before .before .before .before .before .moved-by .ensures)))
+unfolding planned
+returns c m = rw (c .result .ensures m, c .before .cell-at .ensures, frame-in (c .before .before .before .before .before .before .before .before .before .before .before .args .r) (c .before .before .before .before .before .before .before .before .before .before .before .args .offset) (c .before .before .before .before .before .before .before .before .before .before .before .args .r .sp) (c .before .before .before .before .before .before .to .given .0 .0) (rw (c .before .before .before .before .before .before .to .given .1) at (c .before .before .before .before .before .before .before .before .moved-by .ensures)) (c .before .before .if1 .taken), frame-at (c .before .before .before .before .before .before .before .before .before .before .before .args .r) (c .before .before .before .before .before .before .before .before .before .before .before .args .offset) (c .before .before .before .before .before .before .to .given .0 .0) (rw (c .before .before .before .before .before .before .to .given .1) at (c .before .before .before .before .before .before .before .before .moved-by .ensures)))
+
+refuse-requires : tie.Need-refuse-requires
+refuse-requires c κs = search needs
 
 enum-told : tie.Need-enum-told
 enum-told c = search needs
 
+refuse-requires-2 : tie.Need-refuse-requires-2
+refuse-requires-2 c κs = search needs
+
 returns-2 : tie.Need-returns-2
-returns-2 c = rw (frame-out (c .before .before .before .before .before .before .before .before .before .args .r) (c .before .before .before .before .before .before .before .before .before .args .offset) (c .before .before .before .before .before .before .before .before .before .args .r .sp) (c .before .before .before .before .to .given .0 .0) (rw (c .before .before .before .before .to .given .1) at (c .before .before .before .before .before .before .moved-by .ensures)) (c .if1 .left))
+unfolding planned
+returns-2 c m = rw (c .refuse .ensures, frame-out (c .before .before .before .before .before .before .before .before .before .before .args .r) (c .before .before .before .before .before .before .before .before .before .before .args .offset) (c .before .before .before .before .before .before .before .before .before .before .args .r .sp) (c .before .before .before .before .before .to .given .0 .0) (rw (c .before .before .before .before .before .to .given .1) at (c .before .before .before .before .before .before .before .moved-by .ensures)) (c .before .if1 .left))
 
 returns-3 : tie.Need-returns-3
-returns-3 c = rw (frame-below (c .before .before .before .before .before .args .r) (c .before .before .before .before .before .args .offset) (c .before .before .before .before .before .args .r .sp) (rw (c .enum-told .given .1) at (c .before .before .moved-by .ensures)))
+unfolding planned
+returns-3 c m = rw (c .refuse2 .ensures, frame-below (c .before .before .before .before .before .before .args .r) (c .before .before .before .before .before .before .args .offset) (c .before .before .before .before .before .before .args .r .sp) (rw (c .before .enum-told .given .1) at (c .before .before .before .moved-by .ensures)))
 
 pub on-push-off-spec : {M : Type 1} → statement M
 on-push-off-spec =
@@ -37,6 +47,8 @@ on-push-off-spec =
     cell-at-requires
     result-requires
     returns
+    refuse-requires
     enum-told
+    refuse-requires-2
     returns-2
     returns-3)

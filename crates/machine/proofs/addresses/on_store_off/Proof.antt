@@ -2,12 +2,17 @@
 use Rattle.machine.proofs.Reach.{frame-in, frame-out, frame-below, frame-at}
 use borrow.Author.Tests.{lt-leb, le-leb}
 use Prim.Native.Nat.{_-_}
+use Rattle.machine.specs.Plan.{planned}
 use borrow.Author.Needs.{needs}
 use Rattle.machine.proofs.addresses.on_store_off.Statement.{statement}
 use Rattle.machine.proofs.addresses.on_store_off.Tie as tie
 
+refuse-requires : tie.Need-refuse-requires
+refuse-requires c κs = search needs
+
 returns : tie.Need-returns
-returns c = rw (lt-leb _ _ (c .if1 .taken))
+unfolding planned
+returns c m = rw (c .refuse .ensures, lt-leb _ _ (c .before .if1 .taken))
 
 moved-by-requires : tie.Need-moved-by-requires
 moved-by-requires c κs = search needs
@@ -19,26 +24,38 @@ stored-requires : tie.Need-stored-requires
 stored-requires c κs = search needs
 
 returns-2 : tie.Need-returns-2
-returns-2 c = rw (c .stored .ensures, le-leb _ _ (c .before .before .before .before .before .before .before .before .if1 .left), frame-in (c .before .before .before .before .before .before .before .before .before .before .args .r) (c .before .before .before .before .before .before .before .before .before .before .args .offset) (c .before .before .before .before .before .before .before .before .before .before .args .r .sp - 1) (c .before .before .before .before .before .to .given .0 .0) (rw (c .before .before .before .before .before .to .given .1) at (c .before .before .before .before .before .before .before .moved-by .ensures)) (c .before .if2 .taken), frame-at (c .before .before .before .before .before .before .before .before .before .before .args .r) (c .before .before .before .before .before .before .before .before .before .before .args .offset) (c .before .before .before .before .before .to .given .0 .0) (rw (c .before .before .before .before .before .to .given .1) at (c .before .before .before .before .before .before .before .moved-by .ensures)))
+unfolding planned
+returns-2 c m = rw (c .stored .ensures m, le-leb _ _ (c .before .before .before .before .before .before .before .before .if1 .left), frame-in (c .before .before .before .before .before .before .before .before .before .before .args .r) (c .before .before .before .before .before .before .before .before .before .before .args .offset) (c .before .before .before .before .before .before .before .before .before .before .args .r .sp - 1) (c .before .before .before .before .before .to .given .0 .0) (rw (c .before .before .before .before .before .to .given .1) at (c .before .before .before .before .before .before .before .moved-by .ensures)) (c .before .if2 .taken), frame-at (c .before .before .before .before .before .before .before .before .before .before .args .r) (c .before .before .before .before .before .before .before .before .before .before .args .offset) (c .before .before .before .before .before .to .given .0 .0) (rw (c .before .before .before .before .before .to .given .1) at (c .before .before .before .before .before .before .before .moved-by .ensures)))
+
+refuse-requires-2 : tie.Need-refuse-requires-2
+refuse-requires-2 c κs = search needs
 
 enum-told : tie.Need-enum-told
 enum-told c = search needs
 
+refuse-requires-3 : tie.Need-refuse-requires-3
+refuse-requires-3 c κs = search needs
+
 returns-3 : tie.Need-returns-3
-returns-3 c = rw (le-leb _ _ (c .before .before .before .before .before .before .before .if1 .left), frame-out (c .before .before .before .before .before .before .before .before .before .args .r) (c .before .before .before .before .before .before .before .before .before .args .offset) (c .before .before .before .before .before .before .before .before .before .args .r .sp - 1) (c .before .before .before .before .to .given .0 .0) (rw (c .before .before .before .before .to .given .1) at (c .before .before .before .before .before .before .moved-by .ensures)) (c .if2 .left))
+unfolding planned
+returns-3 c m = rw (c .refuse2 .ensures, le-leb _ _ (c .before .before .before .before .before .before .before .before .if1 .left), frame-out (c .before .before .before .before .before .before .before .before .before .before .args .r) (c .before .before .before .before .before .before .before .before .before .before .args .offset) (c .before .before .before .before .before .before .before .before .before .before .args .r .sp - 1) (c .before .before .before .before .before .to .given .0 .0) (rw (c .before .before .before .before .before .to .given .1) at (c .before .before .before .before .before .before .before .moved-by .ensures)) (c .before .if2 .left))
 
 returns-4 : tie.Need-returns-4
-returns-4 c = rw (le-leb _ _ (c .before .before .before .if1 .left), frame-below (c .before .before .before .before .before .args .r) (c .before .before .before .before .before .args .offset) (c .before .before .before .before .before .args .r .sp - 1) (rw (c .enum-told .given .1) at (c .before .before .moved-by .ensures)))
+unfolding planned
+returns-4 c m = rw (c .refuse3 .ensures, le-leb _ _ (c .before .before .before .before .if1 .left), frame-below (c .before .before .before .before .before .before .args .r) (c .before .before .before .before .before .before .args .offset) (c .before .before .before .before .before .before .args .r .sp - 1) (rw (c .before .enum-told .given .1) at (c .before .before .before .moved-by .ensures)))
 
 pub on-store-off-spec : {M : Type 1} → statement M
 on-store-off-spec =
     tie.close
     (tie.spec
+    refuse-requires
     returns
     moved-by-requires
     enum-known-to
     stored-requires
     returns-2
+    refuse-requires-2
     enum-told
+    refuse-requires-3
     returns-3
     returns-4)

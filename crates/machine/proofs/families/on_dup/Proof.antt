@@ -1,17 +1,23 @@
 -- `machine::families::on_dup` meets its contract. Assumes nothing.
-use borrow.Author.Needs.{needs}
 use borrow.Author.Tests.{lt-leb, le-leb, ne-eqb, not-true, not-false}
+use Rattle.machine.specs.Plan.{planned}
+use borrow.Author.Needs.{needs}
 use Rattle.machine.proofs.families.on_dup.Statement.{statement}
 use Rattle.machine.proofs.families.on_dup.Tie as tie
 
+refuse-requires : tie.Need-refuse-requires
+refuse-requires c κs = search needs
+
 returns : tie.Need-returns
-returns c = rw (lt-leb _ _ (c .if1 .taken))
+unfolding planned
+returns c m = rw (c .refuse .ensures, lt-leb _ _ (c .before .if1 .taken))
 
 result-requires : tie.Need-result-requires
 result-requires c κs = search needs
 
 returns-2 : tie.Need-returns-2
-returns-2 c = rw (c .result .ensures, le-leb _ _ (c .before .if1 .left))
+unfolding planned
+returns-2 c m = rw (c .result .ensures m, le-leb _ _ (c .before .if1 .left))
 
 pub on-dup-spec : {M : Type 1} → statement M
-on-dup-spec = tie.close (tie.spec returns result-requires returns-2)
+on-dup-spec = tie.close (tie.spec refuse-requires returns result-requires returns-2)

@@ -1,11 +1,9 @@
 -- `machine::families::on_equal` meets its contract. Assumes nothing.
-use borrow.Author.Needs.{needs}
 use borrow.Author.Tests.{lt-leb, le-leb, ne-eqb, not-true, not-false}
+use Rattle.machine.specs.Plan.{planned}
+use borrow.Author.Needs.{needs}
 use Rattle.machine.proofs.families.on_equal.Statement.{statement}
 use Rattle.machine.proofs.families.on_equal.Tie as tie
-
-returns : tie.Need-returns
-returns c = rw (lt-leb _ _ (c .if1 .taken))
 
 agree-requires : tie.Need-agree-requires
 agree-requires c κs = search needs
@@ -13,11 +11,16 @@ agree-requires c κs = search needs
 bit-requires : tie.Need-bit-requires
 bit-requires c κs = search needs
 
+int-cell-requires : tie.Need-int-cell-requires
+int-cell-requires c κs = search needs
+
 result-requires : tie.Need-result-requires
 result-requires c κs = search needs
 
-returns-2 : tie.Need-returns-2
-returns-2 c = rw (c .result .ensures, c .before .bit .ensures, c .before .before .agree .ensures, le-leb _ _ (c .before .before .before .if1 .left))
+returns : tie.Need-returns
+unfolding planned
+returns c m = rw (c .result .ensures m, c .before .int-cell .ensures, c .before .before .bit .ensures, c .before .before .before .agree .ensures, le-leb _ _ (c .before .before .before .before .pre .1))
 
 pub on-equal-spec : {M : Type 1} → statement M
-on-equal-spec = tie.close (tie.spec returns agree-requires bit-requires result-requires returns-2)
+on-equal-spec =
+    tie.close (tie.spec agree-requires bit-requires int-cell-requires result-requires returns)

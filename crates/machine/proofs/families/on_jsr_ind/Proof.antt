@@ -1,23 +1,42 @@
 -- `machine::families::on_jsr_ind` meets its contract. Assumes nothing.
-use borrow.Author.Needs.{needs}
 use borrow.Author.Tests.{lt-leb, le-leb, ne-eqb, not-true, not-false}
+use Rattle.machine.specs.Plan.{planned}
+use borrow.Author.Needs.{needs}
 use Rattle.machine.proofs.families.on_jsr_ind.Statement.{statement}
 use Rattle.machine.proofs.families.on_jsr_ind.Tie as tie
 
+refuse-requires : tie.Need-refuse-requires
+refuse-requires c κs = search needs
+
 returns : tie.Need-returns
-returns c = rw (lt-leb _ _ (c .if1 .taken))
+unfolding planned
+returns c m = rw (c .refuse .ensures, lt-leb _ _ (c .before .if1 .taken))
+
+refuse-requires-2 : tie.Need-refuse-requires-2
+refuse-requires-2 c κs = search needs
 
 returns-2 : tie.Need-returns-2
-returns-2 c = rw (le-leb _ _ (c .before .before .if1 .left), ne-eqb _ _ (c .if2 .taken))
+unfolding planned
+returns-2 c m = rw (c .refuse2 .ensures, le-leb _ _ (c .before .before .before .if1 .left), ne-eqb _ _ (c .before .if2 .taken))
 
-cast-t7 : tie.Need-cast-t7
-cast-t7 c = search needs
+cast-t6 : tie.Need-cast-t6
+cast-t6 c = search needs
 
 called-requires : tie.Need-called-requires
 called-requires c κs = search needs
 
 returns-3 : tie.Need-returns-3
-returns-3 c = rw (c .called .ensures, le-leb _ _ (c .before .before .before .before .if1 .left), c .before .before .if2 .left)
+unfolding planned
+returns-3 c m = rw (c .called .ensures m, le-leb _ _ (c .before .before .before .before .if1 .left), c .before .before .if2 .left)
 
 pub on-jsr-ind-spec : {M : Type 1} → statement M
-on-jsr-ind-spec = tie.close (tie.spec returns returns-2 cast-t7 called-requires returns-3)
+on-jsr-ind-spec =
+    tie.close
+    (tie.spec
+    refuse-requires
+    returns
+    refuse-requires-2
+    returns-2
+    cast-t6
+    called-requires
+    returns-3)

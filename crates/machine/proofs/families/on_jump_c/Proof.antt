@@ -1,31 +1,51 @@
 -- `machine::families::on_jump_c` meets its contract. Assumes nothing.
-use borrow.Author.Needs.{needs}
 use borrow.Author.Tests.{lt-leb, le-leb, ne-eqb, not-true, not-false}
+use Rattle.machine.specs.Plan.{planned}
+use borrow.Author.Needs.{needs}
 use Rattle.machine.proofs.families.on_jump_c.Statement.{statement}
 use Rattle.machine.proofs.families.on_jump_c.Tie as tie
 
+refuse-requires : tie.Need-refuse-requires
+refuse-requires c κs = search needs
+
 returns : tie.Need-returns
-returns c = rw (lt-leb _ _ (c .if1 .taken))
+unfolding planned
+returns c m = rw (c .refuse .ensures, lt-leb _ _ (c .before .if1 .taken))
+
+refuse-requires-2 : tie.Need-refuse-requires-2
+refuse-requires-2 c κs = search needs
 
 returns-2 : tie.Need-returns-2
-returns-2 c = rw (le-leb _ _ (c .before .before .if1 .left), ne-eqb _ _ (c .if2 .taken))
+unfolding planned
+returns-2 c m = rw (c .refuse2 .ensures, le-leb _ _ (c .before .before .before .if1 .left), ne-eqb _ _ (c .before .if2 .taken))
 
-add-t8 : tie.Need-add-t8
-add-t8 c = search needs
+add-t7 : tie.Need-add-t7
+add-t7 c = search needs
 
 jumped-requires : tie.Need-jumped-requires
 jumped-requires c κs = search needs
 
 returns-3 : tie.Need-returns-3
-returns-3 c = rw (c .jumped .ensures, le-leb _ _ (c .before .before .before .before .before .before .if1 .left), c .before .before .before .before .if2 .left, c .before .before .if3 .taken)
+unfolding planned
+returns-3 c m = rw (c .jumped .ensures m, le-leb _ _ (c .before .before .before .before .before .before .if1 .left), c .before .before .before .before .if2 .left, c .before .before .if3 .taken)
 
 jumped-requires-2 : tie.Need-jumped-requires-2
 jumped-requires-2 c κs = search needs
 
 returns-4 : tie.Need-returns-4
-returns-4 c = rw (c .jumped2 .ensures, le-leb _ _ (c .before .before .before .before .before .if1 .left), c .before .before .before .if2 .left, ne-eqb _ _ (c .before .if3 .left))
+unfolding planned
+returns-4 c m = rw (c .jumped2 .ensures m, le-leb _ _ (c .before .before .before .before .before .if1 .left), c .before .before .before .if2 .left, ne-eqb _ _ (c .before .if3 .left))
 
 pub on-jump-c-spec : {M : Type 1} → statement M
 on-jump-c-spec =
     tie.close
-    (tie.spec returns returns-2 add-t8 jumped-requires returns-3 jumped-requires-2 returns-4)
+    (tie.spec
+    refuse-requires
+    returns
+    refuse-requires-2
+    returns-2
+    add-t7
+    jumped-requires
+    returns-3
+    jumped-requires-2
+    returns-4)

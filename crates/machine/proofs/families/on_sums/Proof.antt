@@ -1,31 +1,47 @@
 -- `machine::families::on_sums` meets its contract. Assumes nothing.
-use borrow.Author.Needs.{needs}
 use borrow.Author.Tests.{lt-leb, le-leb, ne-eqb, not-true, not-false}
+use Rattle.machine.specs.Plan.{planned}
+use borrow.Author.Needs.{needs}
 use Rattle.machine.proofs.families.on_sums.Statement.{statement}
 use Rattle.machine.proofs.families.on_sums.Tie as tie
 
-returns : tie.Need-returns
-returns c = rw (lt-leb _ _ (c .if1 .taken))
+refuse-requires : tie.Need-refuse-requires
+refuse-requires c κs = search needs
 
-returns-2 : tie.Need-returns-2
-returns-2 c = rw (le-leb _ _ (c .before .before .if1 .left), ne-eqb _ _ (c .if2 .taken))
+returns : tie.Need-returns
+unfolding planned
+returns c m = rw (c .refuse .ensures, le-leb _ _ (c .before .before .before .pre .1), ne-eqb _ _ (c .before .if1 .taken))
 
 result-requires : tie.Need-result-requires
 result-requires c κs = search needs
 
-returns-3 : tie.Need-returns-3
-returns-3 c = rw (c .result .ensures, le-leb _ _ (c .before .before .before .before .if1 .left), c .before .before .if2 .left, c .before .if3 .taken)
+returns-2 : tie.Need-returns-2
+unfolding planned
+returns-2 c m = rw (c .result .ensures m, le-leb _ _ (c .before .before .before .before .pre .1), c .before .before .if1 .left, c .before .if2 .taken)
 
 result-requires-2 : tie.Need-result-requires-2
 result-requires-2 c κs = search needs
 
-returns-4 : tie.Need-returns-4
-returns-4 c = rw (c .result2 .ensures, le-leb _ _ (c .before .before .before .before .before .if1 .left), c .before .before .before .if2 .left, ne-eqb _ _ (c .before .before .if3 .left), c .before .if4 .taken)
+returns-3 : tie.Need-returns-3
+unfolding planned
+returns-3 c m = rw (c .result2 .ensures m, le-leb _ _ (c .before .before .before .before .before .pre .1), c .before .before .before .if1 .left, ne-eqb _ _ (c .before .before .if2 .left), c .before .if3 .taken)
 
-returns-5 : tie.Need-returns-5
-returns-5 c = rw (le-leb _ _ (c .before .before .before .before .if1 .left), c .before .before .if2 .left, ne-eqb _ _ (c .before .if3 .left), ne-eqb _ _ (c .if4 .left))
+refuse-requires-2 : tie.Need-refuse-requires-2
+refuse-requires-2 c κs = search needs
+
+returns-4 : tie.Need-returns-4
+unfolding planned
+returns-4 c m = rw (c .refuse2 .ensures, le-leb _ _ (c .before .before .before .before .before .pre .1), c .before .before .before .if1 .left, ne-eqb _ _ (c .before .before .if2 .left), ne-eqb _ _ (c .before .if3 .left))
 
 pub on-sums-spec : {M : Type 1} → statement M
 on-sums-spec =
     tie.close
-    (tie.spec returns returns-2 result-requires returns-3 result-requires-2 returns-4 returns-5)
+    (tie.spec
+    refuse-requires
+    returns
+    result-requires
+    returns-2
+    result-requires-2
+    returns-3
+    refuse-requires-2
+    returns-4)

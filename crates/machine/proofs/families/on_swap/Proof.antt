@@ -1,17 +1,23 @@
 -- `machine::families::on_swap` meets its contract. Assumes nothing.
-use borrow.Author.Needs.{needs}
 use borrow.Author.Tests.{lt-leb, le-leb, ne-eqb, not-true, not-false}
+use Rattle.machine.specs.Plan.{planned}
+use borrow.Author.Needs.{needs}
 use Rattle.machine.proofs.families.on_swap.Statement.{statement}
 use Rattle.machine.proofs.families.on_swap.Tie as tie
 
+refuse-requires : tie.Need-refuse-requires
+refuse-requires c κs = search needs
+
 returns : tie.Need-returns
-returns c = rw (lt-leb _ _ (c .if1 .taken))
+unfolding planned
+returns c m = rw (c .refuse .ensures, lt-leb _ _ (c .before .if1 .taken))
 
 swapped-requires : tie.Need-swapped-requires
 swapped-requires c κs = search needs
 
 returns-2 : tie.Need-returns-2
-returns-2 c = rw (c .swapped .ensures, le-leb _ _ (c .before .if1 .left))
+unfolding planned
+returns-2 c m = rw (c .swapped .ensures m, le-leb _ _ (c .before .if1 .left))
 
 pub on-swap-spec : {M : Type 1} → statement M
-on-swap-spec = tie.close (tie.spec returns swapped-requires returns-2)
+on-swap-spec = tie.close (tie.spec refuse-requires returns swapped-requires returns-2)

@@ -3,13 +3,15 @@ use Prim.Native.Nat.{_-_, _≤_, zero-le}
 use mathlib.Core.Path.{_≡_, refl, sym, _∙_}
 use mathlib.Core.Bool.{true}
 use native.Mathlib.Omega.{arith}
-use borrow.Author.Needs.{needs}
 use lib.ListN.{length}
+use borrow.Author.Tests.{not-true, not-false}
 use Rattle.rules.specs.Table.{program}
 use Rattle.rules.specs.State.{memory, sound}
 use Rattle.rules.specs.Run.{runFrom}
+use Rattle.machine.specs.Turn.{answerOf}
 use Rattle.machine.proofs.Steps.{next-sound}
-use Rattle.machine.proofs.Turns.{turn-first, turn-halted, turn-limit, turn-next, turn-refused}
+use Rattle.machine.proofs.Turns.{turn-first, turn-made, turn-stopped, turn-halted, turn-limit, turn-next, turn-refused}
+use borrow.Author.Needs.{needs}
 use Rattle.machine.proofs.run.run_from.Statement.{statement}
 use Rattle.machine.proofs.run.run_from.Tie as tie
 
@@ -48,37 +50,30 @@ returns c =
     let m = memory (l .bits) (l .tags) (l .history) in
     rw (c .ended .ensures) (turn-halted p (a .limit) (l .made) (l .at) m (c .before .if1 .taken) ∙ l .inv .2, l .inv .0)
 
-plain-step-requires : tie.Need-plain-step-requires Inv-loop μ-loop
-plain-step-requires c κs = c .before .before .before .before .before .before .loop .inv .1
-
-enum-known-next : tie.Need-enum-known-next Inv-loop μ-loop
-enum-known-next c = search needs
-
-enum-known-next-2 : tie.Need-enum-known-next-2 Inv-loop μ-loop
-enum-known-next-2 c = search needs
+take-turn-requires : tie.Need-take-turn-requires Inv-loop μ-loop
+take-turn-requires c κs = c .before .before .before .before .before .before .loop .inv .1
 
 ended-requires-2 : tie.Need-ended-requires-2 Inv-loop μ-loop
 ended-requires-2 c κs = search needs
 
 same-length-4 : tie.Need-same-length-4 Inv-loop μ-loop
-same-length-4 c = search needs
+same-length-4 c = c .before .before .before .before .before .before .before .before .before .take-turn .kept .1 .1 .1 .0 ∙ c .before .before .before .before .before .before .before .before .before .before .before .before .before .before .before .before .loop .inv .3
 
 same-length-5 : tie.Need-same-length-5 Inv-loop μ-loop
-same-length-5 c = search needs
+same-length-5 c = c .before .before .before .before .before .before .before .before .before .take-turn .kept .1 .1 .1 .1 .0 ∙ c .before .before .before .before .before .before .before .before .before .before .before .before .before .before .before .before .loop .inv .4
 
 same-length-6 : tie.Need-same-length-6 Inv-loop μ-loop
-same-length-6 c = search needs
+same-length-6 c = c .before .before .before .before .before .before .before .before .before .take-turn .kept .1 .1 .1 .1 .1 .0 ∙ c .before .before .before .before .before .before .before .before .before .before .before .before .before .before .before .before .loop .inv .5
 
 returns-2 : tie.Need-returns-2 Inv-loop μ-loop
 returns-2 c =
-    let a = c .before .before .before .before .before .before .before .before .before .before .before .before .before .before .before .before .before .before .before .before .before .before .args in
+    let a = c .before .before .before .before .before .before .before .before .before .before .before .before .before .before .before .before .before .before .before .before .before .args in
     let p = program (a .table .now) (a .count) in
-    let l = c .before .before .before .before .before .before .before .before .before .before .before .before .before .before .before .before .before .loop in
+    let l = c .before .before .before .before .before .before .before .before .before .before .before .before .before .before .before .before .loop in
     let m = memory (l .bits) (l .tags) (l .history) in
-    let done = c .before .before .before .before .before .before .before .before .before .before .plain-step in
-    let x = c .before .before .next2 .given in
+    let t = c .before .before .before .before .before .before .before .before .before .take-turn .result in
     rw (c .ended2 .ensures) (
-      turn-refused p (a .limit) (l .made) (l .at) m (c .before .before .before .before .before .before .before .before .before .before .before .before .before .before .if1 .left) (c .before .before .before .before .before .before .before .before .before .before .before .before .before .before .before .before .loop-test .taken) (done .result) (x .0 .0) _ _ _ (l .inv .1) (x .1) (done .ensures)
+      turn-refused p (a .limit) (l .made) (l .at) m (c .before .before .before .before .before .before .before .before .before .before .before .before .before .if1 .left) (c .before .before .before .before .before .before .before .before .before .before .before .before .before .before .before .loop-test .taken) (answerOf t) (t .refusal) _ _ _ (l .inv .1) (turn-stopped t (not-true _ (c .before .if2 .taken))) (c .before .before .before .before .before .before .before .before .before .take-turn .ensures)
           ∙ l .inv .2,
       l .inv .0,
     )
@@ -95,12 +90,13 @@ loop-again c =
     let p = program (a .table .now) (a .count) in
     let l = c .before .before .before .before .before .before .before .before .before .before .before .before .before .before .before .before .loop in
     let m = memory (l .bits) (l .tags) (l .history) in
-    let done = c .before .before .before .before .before .before .before .before .before .plain-step in
-    let x = c .before .next .given in
+    let done = c .before .before .before .before .before .before .before .before .before .take-turn in
+    let t = done .result in
+    let next = turn-made t (not-false _ (c .before .if2 .left)) in
     let low = c .before .before .before .before .before .before .before .before .before .before .before .before .before .before .before .loop-test .taken in (
       omega (arith, low),
-      next-sound p (l .at) m (l .inv .1) _ _ _ (done .result) (x .0 .0) (x .1) (done .ensures),
-      sym (turn-next p (a .limit) (l .made) (l .at) m (c .before .before .before .before .before .before .before .before .before .before .before .before .before .if1 .left) low (done .result) (x .0 .0) _ _ _ (x .1) (done .ensures)) ∙ l .inv .2,
+      next-sound p (l .at) m (l .inv .1) _ _ _ (answerOf t) (t .registers) next (done .ensures),
+      sym (turn-next p (a .limit) (l .made) (l .at) m (c .before .before .before .before .before .before .before .before .before .before .before .before .before .if1 .left) low (answerOf t) (t .registers) _ _ _ next (done .ensures)) ∙ l .inv .2,
       done .kept .1 .1 .1 .0 ∙ l .inv .3,
       done .kept .1 .1 .1 .1 .0 ∙ l .inv .4,
       done .kept .1 .1 .1 .1 .1 .0 ∙ l .inv .5,
@@ -124,7 +120,7 @@ returns-3 c =
     let p = program (a .table .now) (a .count) in
     let l = c .before .before .before .before .loop in
     let m = memory (l .bits) (l .tags) (l .history) in
-    rw (c .ended3 .ensures) (turn-halted p (a .limit) (l .made) (l .at) m (c .before .if2 .taken) ∙ l .inv .2, l .inv .0)
+    rw (c .ended3 .ensures) (turn-halted p (a .limit) (l .made) (l .at) m (c .before .if3 .taken) ∙ l .inv .2, l .inv .0)
 
 ended-requires-4 : tie.Need-ended-requires-4 Inv-loop μ-loop
 ended-requires-4 c κs = search needs
@@ -144,7 +140,7 @@ returns-4 c =
     let p = program (a .table .now) (a .count) in
     let l = c .before .before .before .before .loop in
     let m = memory (l .bits) (l .tags) (l .history) in
-    rw (c .ended4 .ensures) (turn-limit p (a .limit) (l .made) (l .at) m (c .before .if2 .left) (c .before .before .before .loop-test .left) ∙ l .inv .2, l .inv .0)
+    rw (c .ended4 .ensures) (turn-limit p (a .limit) (l .made) (l .at) m (c .before .if3 .left) (c .before .before .before .loop-test .left) ∙ l .inv .2, l .inv .0)
 
 pub run-from-spec : {M : Type 1} → statement M
 run-from-spec =
@@ -158,9 +154,7 @@ run-from-spec =
     same-length-2
     same-length-3
     returns
-    plain-step-requires
-    enum-known-next
-    enum-known-next-2
+    take-turn-requires
     ended-requires-2
     same-length-4
     same-length-5

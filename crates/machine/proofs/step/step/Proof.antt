@@ -1,10 +1,13 @@
--- `machine::step::step` meets its contract: a broken state is refused, and of a sound one the plain step says the rest. Assumes nothing.
-use mathlib.Core.Path.{sym, _∙_}
-use borrow.Author.Needs.{needs}
+-- `machine::step::step` meets its contract: 10, then 1, and then a run of one step. Assumes nothing.
+use mathlib.Core.Path.{refl, sym, _∙_}
+use native.Mathlib.Omega.{arith}
 use borrow.Author.Tests.{not-true, not-false}
 use Rattle.rules.specs.Table.{program}
 use Rattle.rules.specs.State.{memory}
-use Rattle.machine.proofs.Steps.{step-broken}
+use Rattle.rules.specs.declared.MachineRefusal.the-variants.{AlreadyHalted}
+use Rattle.machine.proofs.Steps.{judged-halted, step-broken, step-refuses}
+use Rattle.machine.proofs.Turns.{once-answer}
+use borrow.Author.Needs.{needs}
 use Rattle.machine.proofs.step.step.Statement.{statement}
 use Rattle.machine.proofs.step.step.Tie as tie
 
@@ -21,12 +24,7 @@ same-length-3 : tie.Need-same-length-3
 same-length-3 c = search needs
 
 returns : tie.Need-returns
-returns c =
-    let a = c .before .before .before .before .before .before .before .before .before .args in
-    sym (step-broken (program (a .table .now) (a .length)) (a .r) (memory (a .bits .now) (a .tags .now) (a .history .now)) (sym (c .before .is-sound .ensures) ∙ not-true _ (c .if1 .taken)))
-
-plain-step-requires : tie.Need-plain-step-requires
-plain-step-requires c κs = sym (c .before .before .before .before .is-sound .ensures) ∙ not-false _ (c .before .before .before .if1 .left)
+returns c = sym (step-broken (program (c .before .before .before .before .before .before .before .before .before .args .table .now) (c .before .before .before .before .before .before .before .before .before .args .length)) (c .before .before .before .before .before .before .before .before .before .args .r) (memory (c .before .before .before .before .before .before .before .before .before .args .bits .now) (c .before .before .before .before .before .before .before .before .before .args .tags .now) (c .before .before .before .before .before .before .before .before .before .args .history .now)) (sym (c .before .is-sound .ensures) ∙ not-true _ (c .if1 .taken)))
 
 same-length-4 : tie.Need-same-length-4
 same-length-4 c = search needs
@@ -38,7 +36,25 @@ same-length-6 : tie.Need-same-length-6
 same-length-6 c = search needs
 
 returns-2 : tie.Need-returns-2
-returns-2 c = search needs
+returns-2 c = step-refuses (program (c .before .before .before .before .before .before .before .before .before .before .before .args .table .now) (c .before .before .before .before .before .before .before .before .before .before .before .args .length)) (c .before .before .before .before .before .before .before .before .before .before .before .args .r) (memory (c .before .before .before .before .before .before .before .before .before .before .before .args .bits .now) (c .before .before .before .before .before .before .before .before .before .before .before .args .tags .now) (c .before .before .before .before .before .before .before .before .before .before .before .args .history .now)) (sym (c .before .before .before .is-sound .ensures) ∙ not-false _ (c .before .before .if1 .left)) _ AlreadyHalted refl (judged-halted (program (c .before .before .before .before .before .before .before .before .before .before .before .args .table .now) (c .before .before .before .before .before .before .before .before .before .before .before .args .length)) (c .before .before .before .before .before .before .before .before .before .before .before .args .r) (memory (c .before .before .before .before .before .before .before .before .before .before .before .args .bits .now) (c .before .before .before .before .before .before .before .before .before .before .before .args .tags .now) (c .before .before .before .before .before .before .before .before .before .before .before .args .history .now)) (c .if2 .taken))
+
+run-from-requires : tie.Need-run-from-requires
+run-from-requires c κs = ((sym (c .before .before .before .before .before .before .is-sound .ensures) ∙ not-false _ (c .before .before .before .before .before .if1 .left)), omega arith)
+
+only-step-requires : tie.Need-only-step-requires
+only-step-requires c κs = search needs
+
+same-length-7 : tie.Need-same-length-7
+same-length-7 c = search needs
+
+same-length-8 : tie.Need-same-length-8
+same-length-8 c = search needs
+
+same-length-9 : tie.Need-same-length-9
+same-length-9 c = search needs
+
+returns-3 : tie.Need-returns-3
+returns-3 c = once-answer (program (c .before .before .before .before .before .before .before .before .before .before .before .before .before .before .before .before .before .before .before .before .before .before .args .table .now) (c .before .before .before .before .before .before .before .before .before .before .before .before .before .before .before .before .before .before .before .before .before .before .args .length)) (c .before .before .before .before .before .before .before .before .before .before .before .before .before .before .before .before .before .before .before .before .before .before .args .r) (memory (c .before .before .before .before .before .before .before .before .before .before .before .before .before .before .before .before .before .before .before .before .before .before .args .bits .now) (c .before .before .before .before .before .before .before .before .before .before .before .before .before .before .before .before .before .before .before .before .before .before .args .tags .now) (c .before .before .before .before .before .before .before .before .before .before .before .before .before .before .before .before .before .before .before .before .before .before .args .history .now)) (sym (c .before .before .before .before .before .before .before .before .before .before .before .before .before .before .is-sound .ensures) ∙ not-false _ (c .before .before .before .before .before .before .before .before .before .before .before .before .before .if1 .left)) (c .before .before .before .before .before .before .before .before .before .before .before .if2 .left) (c .before .before .before .before .before .before .before .run-from .result) _ _ _ _ (c .before .before .before .before .before .before .before .run-from .ensures .0) (c .only-step .ensures)
 
 pub step-spec : {M : Type 1} → statement M
 step-spec =
@@ -49,8 +65,13 @@ step-spec =
     same-length-2
     same-length-3
     returns
-    plain-step-requires
     same-length-4
     same-length-5
     same-length-6
-    returns-2)
+    returns-2
+    run-from-requires
+    only-step-requires
+    same-length-7
+    same-length-8
+    same-length-9
+    returns-3)

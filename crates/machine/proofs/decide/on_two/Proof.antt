@@ -1,0 +1,40 @@
+-- `machine::decide::on_two` meets its contract. Assumes nothing.
+use mathlib.Core.Path.{sym, ap, _∙_}
+use Prim.Native.Nat.{_-_}
+use mathlib.Core.List.{[]}
+use Rattle.rules.specs.State.{memory, cellAt}
+use Rattle.rules.specs.Decide.{decide}
+use Rattle.machine.specs.Plan.{planned}
+use Rattle.machine.proofs.Pairs.{pair-few}
+use borrow.Author.Needs.{needs}
+use Rattle.machine.proofs.decide.on_two.Statement.{statement}
+use Rattle.machine.proofs.decide.on_two.Tie as tie
+
+refuse-requires : tie.Need-refuse-requires
+refuse-requires c κs = search needs
+
+returns : tie.Need-returns
+unfolding decide planned
+returns c n =
+    let r = c .before .before .before .before .before .args .r in
+    let m = memory (c .before .before .before .before .before .args .bits .now) (c .before .before .before .before .before .args .tags .now) [] in
+    ap (planned r m) (c .refuse .ensures)
+    ∙ sym (pair-few r m n (cellAt m (record { 0 = r .sp - 2 })) (cellAt m (record { 0 = r .sp - 1 })) (c .before .if1 .taken) (c .before .before .before .before .before .args .code) (c .before .before .before .before .before .pre .2))
+
+second-requires : tie.Need-second-requires
+second-requires c κs = search needs
+
+top-requires : tie.Need-top-requires
+top-requires c κs = search needs
+
+on-pair-requires : tie.Need-on-pair-requires
+on-pair-requires c κs = search needs
+
+returns-2 : tie.Need-returns-2
+unfolding decide
+returns-2 c n = c .on-pair .ensures _ n ∙ rw (c .before .before .second .ensures, c .before .top .ensures)
+
+pub on-two-spec : {M : Type 1} → statement M
+on-two-spec =
+    tie.close
+    (tie.spec refuse-requires returns second-requires top-requires on-pair-requires returns-2)

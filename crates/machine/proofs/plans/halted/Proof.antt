@@ -1,0 +1,12 @@
+-- `machine::plans::halted` meets its contract. Assumes nothing.
+use mathlib.Core.Path.{refl}
+use Rattle.machine.specs.Plan.{planned}
+use Rattle.machine.proofs.plans.halted.Statement.{statement}
+use Rattle.machine.proofs.plans.halted.Tie as tie
+
+returns : tie.Need-returns
+unfolding planned
+returns c m = refl
+
+pub halted-spec : {M : Type 1} → statement M
+halted-spec = tie.close (tie.spec returns)

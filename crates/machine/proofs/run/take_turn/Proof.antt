@@ -1,0 +1,78 @@
+-- `machine::run::take_turn` meets its contract: 1 and 2, and then what the instruction decides, carried out. Assumes nothing.
+use mathlib.Core.Path.{sym, ap, _∙_}
+use mathlib.Core.List.{[]}
+use native.Mathlib.Omega.{arith}
+use lib.ListN.{getD}
+use Rattle.rules.specs.Table.{program}
+use Rattle.rules.specs.State.{memory}
+use Rattle.rules.specs.Step.{fitted, carried}
+use Rattle.rules.specs.declared.Decision.{Decision}
+use Rattle.rules.specs.declared.MachineRefusal.the-variants.{AlreadyHalted, AtEnd}
+use Rattle.rules.proofs.Sound.{decide-history}
+use Rattle.machine.proofs.Steps.{judged-halted, judged-end, small, live, step-refuses, placed, coded, opens, step-carries}
+use Rattle.machine.proofs.Carries.{planned-history}
+use borrow.Author.Needs.{needs}
+use Rattle.machine.proofs.run.take_turn.Statement.{statement}
+use Rattle.machine.proofs.run.take_turn.Tie as tie
+
+refused-requires : tie.Need-refused-requires
+refused-requires c κs = search needs
+
+returns : tie.Need-returns
+returns c = step-refuses (program (c .before .before .before .before .before .before .before .args .table .now) (c .before .before .before .before .before .before .before .args .count)) (c .before .before .before .before .before .before .before .args .r) (memory (c .before .before .before .before .before .before .before .args .bits .now) (c .before .before .before .before .before .before .before .args .tags .now) (c .before .before .before .before .before .before .before .args .history .now)) (c .before .before .before .before .before .before .before .pre) _ AlreadyHalted (c .refused .ensures) (judged-halted (program (c .before .before .before .before .before .before .before .args .table .now) (c .before .before .before .before .before .before .before .args .count)) (c .before .before .before .before .before .before .before .args .r) (memory (c .before .before .before .before .before .before .before .args .bits .now) (c .before .before .before .before .before .before .before .args .tags .now) (c .before .before .before .before .before .before .before .args .history .now)) (c .before .if1 .taken))
+
+refused-requires-2 : tie.Need-refused-requires-2
+refused-requires-2 c κs = search needs
+
+returns-2 : tie.Need-returns-2
+returns-2 c = step-refuses (program (c .before .before .before .before .before .before .before .before .args .table .now) (c .before .before .before .before .before .before .before .before .args .count)) (c .before .before .before .before .before .before .before .before .args .r) (memory (c .before .before .before .before .before .before .before .before .args .bits .now) (c .before .before .before .before .before .before .before .before .args .tags .now) (c .before .before .before .before .before .before .before .before .args .history .now)) (c .before .before .before .before .before .before .before .before .pre) _ AtEnd (c .refused2 .ensures) (judged-end (program (c .before .before .before .before .before .before .before .before .args .table .now) (c .before .before .before .before .before .before .before .before .args .count)) (c .before .before .before .before .before .before .before .before .args .r) (memory (c .before .before .before .before .before .before .before .before .args .bits .now) (c .before .before .before .before .before .before .before .before .args .tags .now) (c .before .before .before .before .before .before .before .before .args .history .now)) (c .before .before .if1 .left) (c .before .if2 .taken))
+
+mul-decide-at : tie.Need-mul-decide-at
+mul-decide-at c = let s = small (program (c .before .before .before .before .before .before .before .args .table .now) (c .before .before .before .before .before .before .before .args .count)) (c .before .before .before .before .before .before .before .args .r) (memory (c .before .before .before .before .before .before .before .args .bits .now) (c .before .before .before .before .before .before .before .args .tags .now) (c .before .before .before .before .before .before .before .args .history .now)) (c .before .before .before .before .before .before .before .pre) in omega (arith, s .0)
+
+shared-slice-read-decide-at : tie.Need-shared-slice-read-decide-at
+shared-slice-read-decide-at c = placed (program (c .before .before .before .before .before .before .before .before .args .table .now) (c .before .before .before .before .before .before .before .before .args .count)) (c .before .before .before .before .before .before .before .before .args .r) (memory (c .before .before .before .before .before .before .before .before .args .bits .now) (c .before .before .before .before .before .before .before .before .args .tags .now) (c .before .before .before .before .before .before .before .before .args .history .now)) (c .before .before .before .before .before .before .before .before .pre) (c .before .before .if1 .left) (c .before .if2 .left)
+
+decide-at-requires : tie.Need-decide-at-requires
+decide-at-requires c κs = (small (program (c .before .before .before .before .before .before .before .before .before .before .args .table .now) (c .before .before .before .before .before .before .before .before .before .before .args .count)) (c .before .before .before .before .before .before .before .before .before .before .args .r) (memory (c .before .before .before .before .before .before .before .before .before .before .args .bits .now) (c .before .before .before .before .before .before .before .before .before .before .args .tags .now) (c .before .before .before .before .before .before .before .before .before .before .args .history .now)) (c .before .before .before .before .before .before .before .before .before .before .pre), live (program (c .before .before .before .before .before .before .before .before .before .before .args .table .now) (c .before .before .before .before .before .before .before .before .before .before .args .count)) (c .before .before .before .before .before .before .before .before .before .before .args .r) (memory (c .before .before .before .before .before .before .before .before .before .before .args .bits .now) (c .before .before .before .before .before .before .before .before .before .before .args .tags .now) (c .before .before .before .before .before .before .before .before .before .before .args .history .now)) (c .before .before .before .before .before .before .before .before .before .before .pre), coded (program (c .before .before .before .before .before .before .before .before .before .before .args .table .now) (c .before .before .before .before .before .before .before .before .before .before .args .count)) (c .before .before .before .before .before .before .before .before .before .before .args .r) (memory (c .before .before .before .before .before .before .before .before .before .before .args .bits .now) (c .before .before .before .before .before .before .before .before .before .before .args .tags .now) (c .before .before .before .before .before .before .before .before .before .before .args .history .now)) (c .before .before .before .before .before .before .before .before .before .before .pre) (c .before .before .before .before .if1 .left) (c .before .before .before .if2 .left))
+
+carry-requires : tie.Need-carry-requires
+carry-requires c κs e q =
+    opens (program (c .before .before .before .before .before .before .before .before .before .before .before .before .before .before .args .table .now) (c .before .before .before .before .before .before .before .before .before .before .before .before .before .before .args .count)) (c .before .before .before .before .before .before .before .before .before .before .before .before .before .before .args .r) (memory (c .before .before .before .before .before .before .before .before .before .before .before .before .before .before .args .bits .now) (c .before .before .before .before .before .before .before .before .before .before .before .before .before .before .args .tags .now) (c .before .before .before .before .before .before .before .before .before .before .before .before .before .before .args .history .now)) (c .before .before .before .before .before .before .before .before .before .before .before .before .before .before .pre) (c .before .before .before .before .before .before .before .before .if1 .left) (c .before .before .before .before .before .before .before .if2 .left) e
+    (sym
+    (planned-history (c .before .before .before .before .before .before .before .before .before .before .before .before .before .before .args .r) (c .before .before .before .before .before .before .before .before .before .before .before .before .before .before .args .bits .now) (c .before .before .before .before .before .before .before .before .before .before .before .before .before .before .args .tags .now) (c .before .before .before .before .before .before .before .before .before .before .before .before .before .before .args .history .now) [] (c .before .before .before .decide-at .result) ∙ c .before .before .before .decide-at .ensures
+    ∙ decide-history (c .before .before .before .before .before .before .before .before .before .before .before .before .before .before .args .r) (c .before .before .before .before .before .before .before .before .before .before .before .before .before .before .args .bits .now) (c .before .before .before .before .before .before .before .before .before .before .before .before .before .before .args .tags .now) [] (c .before .before .before .before .before .before .before .before .before .before .before .before .before .before .args .history .now) (getD (c .before .before .before .before .before .before .before .before .before .before .before .before .before .before .args .table .now) (c .before .before .before .before .before .before .before .before .before .before .before .before .before .before .args .r .pc) 0)) ∙ q)
+
+same-length : tie.Need-same-length
+same-length c = search needs
+
+same-length-2 : tie.Need-same-length-2
+same-length-2 c = search needs
+
+same-length-3 : tie.Need-same-length-3
+same-length-3 c = search needs
+
+returns-3 : tie.Need-returns-3
+returns-3 c =
+    c .before .before .before .before .before .before .carry .ensures
+    ∙ ap (λ (z : Decision). carried (c .before .before .before .before .before .before .before .before .before .before .before .before .before .before .before .before .before .before .before .before .before .args .r) (memory (c .before .before .before .before .before .before .before .before .before .before .before .before .before .before .before .before .before .before .before .before .before .args .bits .now) (c .before .before .before .before .before .before .before .before .before .before .before .before .before .before .before .before .before .before .before .before .before .args .tags .now) (c .before .before .before .before .before .before .before .before .before .before .before .before .before .before .before .before .before .before .before .before .before .args .history .now)) (fitted (c .before .before .before .before .before .before .before .before .before .before .before .before .before .before .before .before .before .before .before .before .before .args .r) z))
+    (planned-history (c .before .before .before .before .before .before .before .before .before .before .before .before .before .before .before .before .before .before .before .before .before .args .r) (c .before .before .before .before .before .before .before .before .before .before .before .before .before .before .before .before .before .before .before .before .before .args .bits .now) (c .before .before .before .before .before .before .before .before .before .before .before .before .before .before .before .before .before .before .before .before .before .args .tags .now) (c .before .before .before .before .before .before .before .before .before .before .before .before .before .before .before .before .before .before .before .before .before .args .history .now) [] (c .before .before .before .before .before .before .before .before .before .before .decide-at .result) ∙ c .before .before .before .before .before .before .before .before .before .before .decide-at .ensures
+    ∙ decide-history (c .before .before .before .before .before .before .before .before .before .before .before .before .before .before .before .before .before .before .before .before .before .args .r) (c .before .before .before .before .before .before .before .before .before .before .before .before .before .before .before .before .before .before .before .before .before .args .bits .now) (c .before .before .before .before .before .before .before .before .before .before .before .before .before .before .before .before .before .before .before .before .before .args .tags .now) [] (c .before .before .before .before .before .before .before .before .before .before .before .before .before .before .before .before .before .before .before .before .before .args .history .now) (getD (c .before .before .before .before .before .before .before .before .before .before .before .before .before .before .before .before .before .before .before .before .before .args .table .now) (c .before .before .before .before .before .before .before .before .before .before .before .before .before .before .before .before .before .before .before .before .before .args .r .pc) 0))
+    ∙ sym (step-carries (program (c .before .before .before .before .before .before .before .before .before .before .before .before .before .before .before .before .before .before .before .before .before .args .table .now) (c .before .before .before .before .before .before .before .before .before .before .before .before .before .before .before .before .before .before .before .before .before .args .count)) (c .before .before .before .before .before .before .before .before .before .before .before .before .before .before .before .before .before .before .before .before .before .args .r) (memory (c .before .before .before .before .before .before .before .before .before .before .before .before .before .before .before .before .before .before .before .before .before .args .bits .now) (c .before .before .before .before .before .before .before .before .before .before .before .before .before .before .before .before .before .before .before .before .before .args .tags .now) (c .before .before .before .before .before .before .before .before .before .before .before .before .before .before .before .before .before .before .before .before .before .args .history .now)) (c .before .before .before .before .before .before .before .before .before .before .before .before .before .before .before .before .before .before .before .before .before .pre) (c .before .before .before .before .before .before .before .before .before .before .before .before .before .before .before .if1 .left) (c .before .before .before .before .before .before .before .before .before .before .before .before .before .before .if2 .left))
+
+pub take-turn-spec : {M : Type 1} → statement M
+take-turn-spec =
+    tie.close
+    (tie.spec
+    refused-requires
+    returns
+    refused-requires-2
+    returns-2
+    mul-decide-at
+    shared-slice-read-decide-at
+    decide-at-requires
+    carry-requires
+    same-length
+    same-length-2
+    same-length-3
+    returns-3)

@@ -1,0 +1,79 @@
+-- What a plan means: the rules' decision, given the cells as they stand. Assumes nothing.
+use Prim.Native.Nat.{ℕ, _-_}
+use mathlib.Core.Path.{_≡_}
+use Rattle.rules.specs.Tags.{INT, int}
+use Rattle.rules.specs.State.{Memory, cellAt}
+use Rattle.rules.specs.declared.Cell.{Cell}
+use Rattle.rules.specs.declared.Registers.{Registers}
+use Rattle.rules.specs.declared.Effect.{Effect}
+use Rattle.rules.specs.declared.Decision.{Decision}
+use Rattle.rules.specs.declared.Decision.the-variants.{Does, Refuses}
+use Rattle.rules.specs.declared.MachineRefusal.the-variants as refusal
+use Rattle.machine.specs.declared.plans.Plan.{Plan}
+use Rattle.machine.specs.declared.plans.Rare as rares
+use Rattle.machine.specs.declared.plans.Shape.{Shape}
+use Rattle.machine.specs.declared.plans.Shape.the-variants.{Jump, Write, Rare, TooFewValues, WrongTag, NoResult, BadAddress}
+use Rattle.machine.specs.declared.plans.Rare.the-variants.{Swap, Fill, Frame, Link, Halt}
+
+-- the cell to write
+abbrev pub cellOf : Plan → Cell
+cellOf d = record { bits = d .bits; tag = d .tag }
+
+-- PC and SP alone, and one cell
+abbrev pub jumps : Registers → ℕ → ℕ → Effect
+jumps r pc sp =
+    record { pc = pc; sp = sp; fbr = r .fbr; halt = 0; at = 0; count = 0; first = int 0; second = int 0 }
+
+abbrev pub writes : Registers → Plan → Effect
+writes r d =
+    record { pc = d .pc; sp = d .sp; fbr = r .fbr; halt = 0; at = d .at; count = 1; first = cellOf d; second = int 0 }
+
+-- the rarer effects: two cells, of which the second is the one that stood at the address; INT 0 up to SP; FBR; FBR and a cell; HALT
+abbrev pub swaps : Registers → Cell → Plan → Effect
+swaps r there d =
+    record { pc = d .pc; sp = d .sp; fbr = r .fbr; halt = 0; at = d .at; count = 2; first = cellOf d; second = there }
+
+abbrev pub fills : Registers → Plan → Effect
+fills r d =
+    record { pc = d .pc; sp = d .sp; fbr = r .fbr; halt = 0; at = d .at; count = d .sp - d .at; first = int 0; second = int 0 }
+
+abbrev pub frames : Plan → Effect
+frames d =
+    record { pc = d .pc; sp = d .sp; fbr = d .at; halt = 0; at = 0; count = 0; first = int 0; second = int 0 }
+
+abbrev pub links : Registers → Plan → Effect
+links r d =
+    record { pc = d .pc; sp = d .sp; fbr = r .sp; halt = 0; at = d .at; count = 1; first = cellOf d; second = int 0 }
+
+abbrev pub halts : Registers → Plan → Effect
+halts r d =
+    record { pc = d .pc; sp = d .sp; fbr = r .fbr; halt = 1; at = 0; count = 0; first = int 0; second = int 0 }
+
+-- each of them, where `there` is the cell at the plan's address
+abbrev pub rarely : rares.Rare → Registers → Cell → Plan → Effect
+rarely Swap r there d = swaps r there d
+rarely Fill r there d = fills r d
+rarely Frame r there d = frames d
+rarely Link r there d = links r d
+rarely Halt r there d = halts r d
+
+-- each shape
+abbrev pub shaped : Shape → Registers → Cell → Plan → Decision
+shaped Jump r there d = Does (jumps r (d .pc) (d .sp))
+shaped Write r there d = Does (writes r d)
+shaped Rare r there d = Does (rarely (d .rare) r there d)
+shaped TooFewValues r there d = Refuses refusal.TooFewValues
+shaped WrongTag r there d = Refuses refusal.WrongTag
+shaped NoResult r there d = Refuses refusal.NoResult
+shaped BadAddress r there d = Refuses refusal.BadAddress
+
+unfoldable pub planned : Registers → Memory → Plan → Decision
+planned r m d = shaped (d .shape) r (cellAt m (record { 0 = d .at })) d
+
+-- a plan that means the decision whatever stands in the cells
+abbrev pub Means : Registers → Plan → Decision → Type 0
+Means r d x = (m : Memory) → planned r m d ≡ x
+
+-- a refusal plans nothing more
+abbrev pub refusing : Shape → Plan
+refusing s = record { shape = s; rare = Halt; pc = 0; sp = 0; at = 0; bits = 0; tag = INT }
