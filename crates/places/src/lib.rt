@@ -47,7 +47,12 @@ pub fn step_place(pc: usize, sp: usize, fbr: usize, count: usize) -> u64
     marked + stack + (count as u64 % CELL_SPAN) * COUNT
 }
 
-// The mark: 0 for a cell place, 1 for a step place.
+// The mark of a cell place, and that of a step place.
+pub const CELL_MARK: u64 = 0;
+
+pub const STEP_MARK: u64 = 1;
+
+// The mark of a place.
 pub fn mark_of(place: u64) -> u64
     ensures { λ r. ⌜ r ≡ mark place ⌝ }
 {
