@@ -6,6 +6,12 @@ ghost use lib.ListN.{length};
 ghost use Rattle.rules.specs.Numbers.{registersAfter};
 ghost use Rattle.sam_c.specs.Calls.{listOf, registersOf};
 
+// How many there are.
+pub(crate) const COUNT: usize = 7;
+
+// "broken state or table", where a call is lent registers of another length.
+pub(crate) const BROKEN: u32 = 10;
+
 // Reads them.
 pub(crate) fn read(registers: &[u64]) -> Registers
     requires { ⌜ length (now registers) ≡ 7 ⌝ }
