@@ -42,7 +42,9 @@ fn take_label(src: &[u8], labels: &mut [u64], s: Held, start: usize, end: usize)
             if m >= sizes::MAX_LABELS {
                 return Verdict::Stop(TextRefusal::TooManyLabels, start);
             }
-            labels[m] = (start as u64) * search::START + (len as u64) * search::LENGTH + (n as u64);
+            labels[m] = (start as u64) * search::START_WEIGHT
+                + (len as u64) * search::LENGTH_WEIGHT
+                + (n as u64);
             Verdict::Go(Held {
                 n: n,
                 m: m + 1,

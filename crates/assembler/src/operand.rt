@@ -28,14 +28,14 @@ pub(crate) const LABELLED: u64 = 2;
 
 pub(crate) const BEYOND: u64 = 3;
 
-// What 1 counts for in an item's kind and in its start, and how many numbers the start and the code have room for.
-pub(crate) const KIND: u64 = 0x1000_0000_0000_0000;
+// The weight of a field of an item is what 1 counts for in it, and its span is how many numbers it has room for.
+pub(crate) const KIND_WEIGHT: u64 = 0x1000_0000_0000_0000;
 
-pub(crate) const START: u64 = 0x100_0000_0000;
+pub(crate) const START_WEIGHT: u64 = 0x100_0000_0000;
 
-pub(crate) const STARTS: u64 = 0x10_0000;
+pub(crate) const START_SPAN: u64 = 0x10_0000;
 
-pub(crate) const CODES: u64 = 0x100;
+pub(crate) const CODE_SPAN: u64 = 0x100;
 
 // The highest number target that a program can be long enough for.
 const MAX_TARGET: u32 = sizes::MAX_PROGRAM as u32;
@@ -57,12 +57,12 @@ fn target_word(code: usize, at: usize, v: Numeral) -> Got
     requires { ⌜ (code < codes) × (at ≤ maxSource) ⌝ }
     ensures { λ r. ⌜ ((src : List ℕ) → Says src (targetNumber code at v) r) ⌝ }
 {
-    let a = (at as u64) * START;
+    let a = (at as u64) * START_WEIGHT;
     let k = (code as u64) * CODE_WEIGHT;
     match v {
-        Numeral::Value(x) => Got::Word(NUMBERED * KIND + a + k + (x as u64)),
+        Numeral::Value(x) => Got::Word(NUMBERED * KIND_WEIGHT + a + k + (x as u64)),
         Numeral::WrongForm => Got::Bad(TextRefusal::BadOperand),
-        Numeral::OutOfRange => Got::Word(BEYOND * KIND + a + k),
+        Numeral::OutOfRange => Got::Word(BEYOND * KIND_WEIGHT + a + k),
     }
 }
 
@@ -72,9 +72,9 @@ fn name_word(code: usize, at: usize, len: usize) -> Got
     ensures { λ r. ⌜ ((src : List ℕ) → at + len ≤ length src → Says src (targetLabel code at (piece src at len)) r) ⌝ }
 {
     if len <= sizes::MAX_LABEL {
-        let a = (at as u64) * START;
+        let a = (at as u64) * START_WEIGHT;
         let k = (code as u64) * CODE_WEIGHT;
-        return Got::Word(LABELLED * KIND + a + k + (len as u64));
+        return Got::Word(LABELLED * KIND_WEIGHT + a + k + (len as u64));
     }
     Got::Bad(TextRefusal::LabelTooLong)
 }

@@ -7,14 +7,14 @@ ghost use Rattle.rules.specs.Lists.{same};
 ghost use Rattle.rules.specs.Assemble.{lookup};
 ghost use Rattle.assembler.specs.Held.{piece, labelsOf, SoughtIs};
 
-// What 1 counts for in a label's start and in its length, and how many numbers the length and the address have room for.
-pub(crate) const START: u64 = 0x2_0000;
+// The weight of a field of a label is what 1 counts for in it, and its span is how many numbers it has room for.
+pub(crate) const START_WEIGHT: u64 = 0x2_0000;
 
-pub(crate) const LENGTH: u64 = 0x800;
+pub(crate) const LENGTH_WEIGHT: u64 = 0x800;
 
-const LENGTHS: u64 = 0x40;
+const LENGTH_SPAN: u64 = 0x40;
 
-const ADDRESSES: u64 = 0x800;
+const ADDRESS_SPAN: u64 = 0x800;
 
 // The `len` bytes of the source from `start`, or as many as there are.
 pub(crate) fn piece_of(src: &[u8], start: usize, len: usize) -> &[u8]
@@ -55,10 +55,10 @@ pub(crate) fn find_label(src: &[u8], labels: &[u64], m: usize, t: &[u8]) -> Soug
     let mut k = 0;
     while k < m {
         let w = labels[k];
-        let start = (w / START) as usize;
-        let len = (w / LENGTH % LENGTHS) as usize;
+        let start = (w / START_WEIGHT) as usize;
+        let len = (w / LENGTH_WEIGHT % LENGTH_SPAN) as usize;
         if same_text(piece_of(src, start, len), t) {
-            return Sought::At(w % ADDRESSES);
+            return Sought::At(w % ADDRESS_SPAN);
         }
         k += 1;
     }

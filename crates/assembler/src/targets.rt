@@ -18,9 +18,9 @@ fn settle_item(src: &[u8], labels: &[u64], n: usize, m: usize, w: u64) -> Settle
     requires { ⌜ (m ≤ length (now labels)) × (n ≤ maxProgram) ⌝ }
     ensures { λ r. ⌜ SettledIs (now (src .entry)) n (labelsOf (now (src .entry)) (now (labels .entry)) m) w r ⌝ }
 {
-    let kind = w / operand::KIND;
-    let start = (w / operand::START % operand::STARTS) as usize;
-    let code = w / CODE_WEIGHT % operand::CODES * CODE_WEIGHT;
+    let kind = w / operand::KIND_WEIGHT;
+    let start = (w / operand::START_WEIGHT % operand::START_SPAN) as usize;
+    let code = w / CODE_WEIGHT % operand::CODE_SPAN * CODE_WEIGHT;
     let low = w % CODE_WEIGHT;
     if kind == operand::FINISHED {
         return Settled::Full(w);
