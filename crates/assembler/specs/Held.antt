@@ -1,5 +1,5 @@
--- How the assembler holds what it has read: the table's first n places hold the items, the first m of the labels' places the labels, and 50 in
--- place of a code says that no operand is awaited. Assumes nothing.
+-- How the assembler holds what it has read: the table's first n places hold the items, the first m of the labels' places the labels, and
+-- `codes` in place of a code says that no operand is awaited. Assumes nothing.
 use Prim.Native.Nat.{ℕ, _+_, _^_, _/_, _%_, _≤_, _<_}
 use mathlib.Core.Path.{_≡_}
 use mathlib.Core.Bool.{Bool, true, false, cond}

@@ -8,16 +8,16 @@ ghost use Rattle.rules.specs.Assemble.{allowedRun, isLabel};
 fn is_letter(b: u8) -> bool
     ensures { λ r. ⌜ r ≡ letter b ⌝ }
 {
-    if b < 65 {
+    if b < b'A' {
         return false;
     }
-    if b < 91 {
+    if b <= b'Z' {
         return true;
     }
-    if b < 97 {
+    if b < b'a' {
         return false;
     }
-    b <= 122
+    b <= b'z'
 }
 
 fn is_word_byte(b: u8) -> bool
@@ -26,13 +26,13 @@ fn is_word_byte(b: u8) -> bool
     if is_letter(b) {
         return true;
     }
-    if b == 95 {
+    if b == b'_' {
         return true;
     }
-    if b < 48 {
+    if b < b'0' {
         return false;
     }
-    b <= 57
+    b <= b'9'
 }
 
 fn is_allowed(b: u8) -> bool
@@ -41,13 +41,13 @@ fn is_allowed(b: u8) -> bool
     if is_word_byte(b) {
         return true;
     }
-    if b == 45 {
+    if b == b'-' {
         return true;
     }
-    if b == 35 {
+    if b == b'#' {
         return true;
     }
-    b == 58
+    b == b':'
 }
 
 // How many allowed bytes stand in front.
@@ -94,7 +94,7 @@ pub(crate) fn is_label(t: &[u8]) -> bool
         return false;
     }
     let n = t.len() - 1;
-    if t[n] == 58 {
+    if t[n] == b':' {
         return is_word(&t[..n]);
     }
     false

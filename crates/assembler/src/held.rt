@@ -1,5 +1,9 @@
 // What the assembler's functions hold and hand on.
 use rules::TextRefusal;
+use rules::codes;
+
+// In place of a code: no operand is awaited.
+pub(crate) const NO_CODE: usize = codes::COUNT;
 
 // An operand, as the item's word in a table's place, or its refusal.
 pub(crate) enum Got {
@@ -13,7 +17,7 @@ pub(crate) enum Sought {
     Nowhere,
 }
 
-// The first pass: how many items and labels there are, and the code whose operand is awaited, or 50.
+// The first pass: how many items and labels there are, and the code whose operand is awaited, or NO_CODE.
 pub(crate) struct Held {
     pub n: usize,
     pub m: usize,

@@ -2,12 +2,16 @@
 use crate::classes;
 use crate::held::Got;
 use crate::held::Held;
+use crate::held::NO_CODE;
 use crate::held::Sought;
 use crate::held::Verdict;
 use crate::operand;
 use crate::search;
+use program::table::CODE_WEIGHT;
 use rules::Kind;
 use rules::TextRefusal;
+use rules::codes;
+use rules::sizes;
 use tokens::Next;
 ghost use mathlib.Core.Path.{_≡_};
 ghost use mathlib.Core.List.{List};
@@ -28,17 +32,19 @@ fn take_label(src: &[u8], labels: &mut [u64], s: Held, start: usize, end: usize)
     let m = s.m;
     let wait = s.wait;
     let len = end - start - 1;
-    if len > 32 {
+    if len > sizes::MAX_LABEL {
         return Verdict::Stop(TextRefusal::LabelTooLong, start);
     }
     let sought = search::find_label(src, labels, m, search::piece_of(src, start, len));
     match sought {
         Sought::At(_) => Verdict::Stop(TextRefusal::LabelTwice, start),
         Sought::Nowhere => {
-            if m >= 256 {
+            if m >= sizes::MAX_LABELS {
                 return Verdict::Stop(TextRefusal::TooManyLabels, start);
             }
-            labels[m] = (start as u64) * 131072 + (len as u64) * 2048 + (n as u64);
+            labels[m] = (start as u64) * search::START_WEIGHT
+                + (len as u64) * search::LENGTH_WEIGHT
+                + (n as u64);
             Verdict::Go(Held {
                 n: n,
                 m: m + 1,
@@ -61,17 +67,17 @@ fn awaits_operand(kind: Kind) -> bool
     }
 }
 
-// An instruction's name, with its code: 50 or above where it is none.
+// An instruction's name, with its code, which is past the last where it is none.
 fn take_name(table: &mut [u64], s: Held, start: usize, code: usize) -> Verdict
     requires { ⌜ Well s × ((length (now table) ≡ maxProgram) × (codes ≤ s .wait)) ⌝ }
     ensures { λ r. ⌜ ((src labels : List ℕ) → JudgedIs src (now (table .exit)) labels (newName (stateOf src (now (table .entry)) labels s) start code) r) ⌝ }
 {
     let n = s.n;
     let m = s.m;
-    if code >= 50 {
+    if code >= codes::COUNT {
         return Verdict::Stop(TextRefusal::NoInstruction, start);
     }
-    if n >= 1024 {
+    if n >= sizes::MAX_PROGRAM {
         return Verdict::Stop(TextRefusal::TooManyInstructions, start);
     }
     if awaits_operand(program::kinds::kind_of(code)) {
@@ -81,11 +87,11 @@ fn take_name(table: &mut [u64], s: Held, start: usize, code: usize) -> Verdict
             wait: code,
         });
     }
-    table[n] = (code as u64) * 4294967296;
+    table[n] = (code as u64) * CODE_WEIGHT;
     Verdict::Go(Held {
         n: n + 1,
         m: m,
-        wait: 50,
+        wait: NO_CODE,
     })
 }
 
@@ -105,7 +111,7 @@ fn take_operand(src: &[u8], table: &mut [u64], s: Held, start: usize, end: usize
             Verdict::Go(Held {
                 n: n + 1,
                 m: m,
-                wait: 50,
+                wait: NO_CODE,
             })
         }
     }
@@ -129,7 +135,7 @@ fn judge_token(
     if run < t.len() {
         return Verdict::Stop(TextRefusal::ForbiddenByte, start + run);
     }
-    if wait < 50 {
+    if wait < NO_CODE {
         return take_operand(src, table, s, start, end);
     }
     if classes::is_label(t) {
@@ -146,7 +152,7 @@ pub(crate) fn judge_all(src: &[u8], table: &mut [u64], labels: &mut [u64]) -> Ve
     let mut s = Held {
         n: 0,
         m: 0,
-        wait: 50,
+        wait: NO_CODE,
     };
     let mut at = 0;
     loop {

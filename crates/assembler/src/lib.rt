@@ -3,6 +3,7 @@
 
 use rules::Assembled;
 use rules::TextRefusal;
+use rules::sizes;
 
 mod classes;
 mod held;
@@ -31,7 +32,7 @@ fn assemble_with(src: &[u8], table: &mut [u64], labels: &mut [u64]) -> Assembled
             let n = s.n;
             let m = s.m;
             let wait = s.wait;
-            if wait < 50 {
+            if wait < held::NO_CODE {
                 return Assembled::Fault(TextRefusal::BadOperand, src.len());
             }
             targets::settle_all(src, table, labels, n, m)
@@ -65,14 +66,14 @@ fn used(a: Assembled) -> usize
 pub fn assemble(source: &[u8], table: &mut [u64]) -> Assembled
     ensures { λ r. ⌜ (r ≡ assemble (now (source .entry)) (now (table .entry)) .answer) × (now (table .exit) ≡ assemble (now (source .entry)) (now (table .entry)) .table) ⌝ }
 {
-    if table.len() != 1024 {
+    if table.len() != sizes::MAX_PROGRAM {
         return Assembled::Fault(TextRefusal::WrongLength, 0);
     }
-    if source.len() > 65536 {
+    if source.len() > sizes::MAX_SOURCE {
         clear_from(table, 0);
         return Assembled::Fault(TextRefusal::SourceTooLong, 0);
     }
-    let mut labels = [0u64; 256];
+    let mut labels = [0u64; sizes::MAX_LABELS];
     let answer = assemble_with(source, table, &mut labels);
     clear_from(table, used(answer));
     answer

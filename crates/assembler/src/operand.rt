@@ -1,9 +1,13 @@
-// An operand read: its item as one word, kind * 2^60 + start * 2^40 + code * 2^32 + a value or a length; a finished item is the table's place.
+// An operand read: its item as one word, its kind, its start in 20 bits, its code in eight and a value or a length in 32; a finished item is the
+// table's place.
 use crate::classes;
 use crate::held::Got;
+use program::table::CODE_WEIGHT;
 use rules::Kind;
 use rules::Numeral;
 use rules::TextRefusal;
+use rules::sizes;
+use rules::words;
 ghost use mathlib.Core.Path.{_≡_};
 ghost use mathlib.Core.List.{List};
 ghost use Prim.Native.Nat.{ℕ, _+_, _≤_, _<_};
@@ -15,13 +19,34 @@ ghost use Rattle.rules.specs.Assemble.{plainNumber, targetNumber, targetLabel, 
 ghost use Rattle.tokens.specs.Next.{between};
 ghost use Rattle.assembler.specs.Held.{piece, Says};
 
+// The kinds of item: a finished one; a number target; a label target; a number target that no program is long enough for.
+pub(crate) const FINISHED: u64 = 0;
+
+pub(crate) const NUMBERED: u64 = 1;
+
+pub(crate) const LABELLED: u64 = 2;
+
+pub(crate) const BEYOND: u64 = 3;
+
+// The weight of a field of an item is what 1 counts for in it, and its span is how many numbers it has room for.
+pub(crate) const KIND_WEIGHT: u64 = 0x1000_0000_0000_0000;
+
+pub(crate) const START_WEIGHT: u64 = 0x100_0000_0000;
+
+pub(crate) const START_SPAN: u64 = 0x10_0000;
+
+pub(crate) const CODE_SPAN: u64 = 0x100;
+
+// The highest number target that a program can be long enough for.
+const MAX_TARGET: u32 = sizes::MAX_PROGRAM as u32;
+
 // A number or bits: the table's place is known at once.
 fn plain_word(code: usize, v: Numeral) -> Got
     requires { ⌜ code < codes ⌝ }
     ensures { λ r. ⌜ ((src : List ℕ) → Says src (plainNumber code v) r) ⌝ }
 {
     match v {
-        Numeral::Value(x) => Got::Word((code as u64) * 4294967296 + (x as u64)),
+        Numeral::Value(x) => Got::Word((code as u64) * CODE_WEIGHT + (x as u64)),
         Numeral::WrongForm => Got::Bad(TextRefusal::BadOperand),
         Numeral::OutOfRange => Got::Bad(TextRefusal::OperandRange),
     }
@@ -32,12 +57,12 @@ fn target_word(code: usize, at: usize, v: Numeral) -> Got
     requires { ⌜ (code < codes) × (at ≤ maxSource) ⌝ }
     ensures { λ r. ⌜ ((src : List ℕ) → Says src (targetNumber code at v) r) ⌝ }
 {
-    let a = (at as u64) * 1099511627776;
-    let k = (code as u64) * 4294967296;
+    let a = (at as u64) * START_WEIGHT;
+    let k = (code as u64) * CODE_WEIGHT;
     match v {
-        Numeral::Value(x) => Got::Word(1152921504606846976 + a + k + (x as u64)),
+        Numeral::Value(x) => Got::Word(NUMBERED * KIND_WEIGHT + a + k + (x as u64)),
         Numeral::WrongForm => Got::Bad(TextRefusal::BadOperand),
-        Numeral::OutOfRange => Got::Word(3458764513820540928 + a + k),
+        Numeral::OutOfRange => Got::Word(BEYOND * KIND_WEIGHT + a + k),
     }
 }
 
@@ -46,10 +71,10 @@ fn name_word(code: usize, at: usize, len: usize) -> Got
     requires { ⌜ (code < codes) × (at ≤ maxSource) ⌝ }
     ensures { λ r. ⌜ ((src : List ℕ) → at + len ≤ length src → Says src (targetLabel code at (piece src at len)) r) ⌝ }
 {
-    if len <= 32 {
-        let a = (at as u64) * 1099511627776;
-        let k = (code as u64) * 4294967296;
-        return Got::Word(2305843009213693952 + a + k + (len as u64));
+    if len <= sizes::MAX_LABEL {
+        let a = (at as u64) * START_WEIGHT;
+        let k = (code as u64) * CODE_WEIGHT;
+        return Got::Word(LABELLED * KIND_WEIGHT + a + k + (len as u64));
     }
     Got::Bad(TextRefusal::LabelTooLong)
 }
@@ -63,7 +88,7 @@ fn read_target(src: &[u8], code: usize, start: usize, end: usize) -> Got
     if classes::is_word(t) {
         return name_word(code, start, end - start);
     }
-    target_word(code, start, operands::number_of(t, 0, 1024))
+    target_word(code, start, operands::number_of(t, 0, MAX_TARGET))
 }
 
 // The operand of the code, which stands from `start` to `end`.
@@ -75,9 +100,12 @@ pub(crate) fn read_operand(src: &[u8], code: usize, start: usize, end: usize) ->
     let kind = program::kinds::kind_of(code);
     match kind {
         Kind::Bare => Got::Bad(TextRefusal::BadOperand),
-        Kind::Immediate => plain_word(code, operands::number_of(t, 2147483648, 2147483647)),
+        Kind::Immediate => plain_word(code, operands::number_of(t, words::LOWEST, words::HIGHEST)),
         Kind::Pattern => plain_word(code, operands::pattern_of(t)),
-        Kind::Offset => plain_word(code, operands::number_of(t, 999, 999)),
+        Kind::Offset => plain_word(
+            code,
+            operands::number_of(t, sizes::MAX_OFFSET, sizes::MAX_OFFSET),
+        ),
         Kind::Target => read_target(src, code, start, end),
     }
 }

@@ -1,4 +1,4 @@
-// The labels: each is one word, start * 2^17 + length * 2^11 + address, and its text stands in the source.
+// The labels: each is one word, its start, its length in six bits and its address in eleven, and its text stands in the source.
 use crate::held::Sought;
 ghost use mathlib.Core.Path.{_≡_};
 ghost use Prim.Native.Nat.{_≤_};
@@ -6,6 +6,15 @@ ghost use lib.ListN.{length};
 ghost use Rattle.rules.specs.Lists.{same};
 ghost use Rattle.rules.specs.Assemble.{lookup};
 ghost use Rattle.assembler.specs.Held.{piece, labelsOf, SoughtIs};
+
+// The weight of a field of a label is what 1 counts for in it, and its span is how many numbers it has room for.
+pub(crate) const START_WEIGHT: u64 = 0x2_0000;
+
+pub(crate) const LENGTH_WEIGHT: u64 = 0x800;
+
+const LENGTH_SPAN: u64 = 0x40;
+
+const ADDRESS_SPAN: u64 = 0x800;
 
 // The `len` bytes of the source from `start`, or as many as there are.
 pub(crate) fn piece_of(src: &[u8], start: usize, len: usize) -> &[u8]
@@ -46,10 +55,10 @@ pub(crate) fn find_label(src: &[u8], labels: &[u64], m: usize, t: &[u8]) -> Soug
     let mut k = 0;
     while k < m {
         let w = labels[k];
-        let start = (w / 131072) as usize;
-        let len = (w / 2048 % 64) as usize;
+        let start = (w / START_WEIGHT) as usize;
+        let len = (w / LENGTH_WEIGHT % LENGTH_SPAN) as usize;
         if same_text(piece_of(src, start, len), t) {
-            return Sought::At(w % 2048);
+            return Sought::At(w % ADDRESS_SPAN);
         }
         k += 1;
     }

@@ -1,7 +1,9 @@
 // The second pass: each item becomes the table's place, in program order, until a target is at fault.
 use crate::held::Settled;
 use crate::held::Sought;
+use crate::operand;
 use crate::search;
+use program::table::CODE_WEIGHT;
 use rules::Assembled;
 use rules::TextRefusal;
 ghost use mathlib.Core.Path.{_≡_};
@@ -16,20 +18,20 @@ fn settle_item(src: &[u8], labels: &[u64], n: usize, m: usize, w: u64) -> Settle
     requires { ⌜ (m ≤ length (now labels)) × (n ≤ maxProgram) ⌝ }
     ensures { λ r. ⌜ SettledIs (now (src .entry)) n (labelsOf (now (src .entry)) (now (labels .entry)) m) w r ⌝ }
 {
-    let kind = w / 1152921504606846976;
-    let start = (w / 1099511627776 % 1048576) as usize;
-    let code = w / 4294967296 % 256 * 4294967296;
-    let low = w % 4294967296;
-    if kind == 0 {
+    let kind = w / operand::KIND_WEIGHT;
+    let start = (w / operand::START_WEIGHT % operand::START_SPAN) as usize;
+    let code = w / CODE_WEIGHT % operand::CODE_SPAN * CODE_WEIGHT;
+    let low = w % CODE_WEIGHT;
+    if kind == operand::FINISHED {
         return Settled::Full(w);
     }
-    if kind == 1 {
+    if kind == operand::NUMBERED {
         if low <= n as u64 {
             return Settled::Full(code + low);
         }
         return Settled::No(TextRefusal::OperandRange, start);
     }
-    if kind != 2 {
+    if kind != operand::LABELLED {
         return Settled::No(TextRefusal::OperandRange, start);
     }
     let sought = search::find_label(src, labels, m, search::piece_of(src, start, low as usize));

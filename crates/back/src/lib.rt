@@ -2,6 +2,7 @@
 use rules::MachineRefusal;
 use rules::Registers;
 use rules::Step;
+use rules::tags;
 ghost use mathlib.Core.Path.{_≡_};
 ghost use mathlib.Core.List.{[]};
 ghost use Prim.Native.Nat.{ℕ, _<_};
@@ -18,7 +19,7 @@ fn is_formed_cell(place: u64, low: usize, n: usize, count: usize) -> bool
     ensures { λ a. ⌜ a ≡ formedCell n count low place ⌝ }
 {
     let address = places::cell_address(place);
-    if places::mark_of(place) != 0 {
+    if places::mark_of(place) != places::CELL_MARK {
         return false;
     }
     if places::cell_zeros(place) != 0 {
@@ -30,7 +31,7 @@ fn is_formed_cell(place: u64, low: usize, n: usize, count: usize) -> bool
     if n <= address {
         return false;
     }
-    if places::cell_tag(place) != 3 {
+    if places::cell_tag(place) != tags::PA {
         return true;
     }
     places::cell_bits(place) as usize <= count
@@ -58,7 +59,7 @@ fn are_formed_cells(cells: &[u64], n: usize, count: usize) -> bool
 fn is_formed_step(place: u64, n: usize, count: usize, used: usize) -> bool
     ensures { λ a. ⌜ a ≡ formedStep n count used place ⌝ }
 {
-    if places::mark_of(place) != 1 {
+    if places::mark_of(place) != places::STEP_MARK {
         return false;
     }
     if places::step_zeros(place) != 0 {

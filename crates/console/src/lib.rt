@@ -6,6 +6,7 @@ mod values;
 mod words;
 
 use rules::Assembled;
+use rules::sizes;
 ghost use mathlib.Core.Path.{_≡_};
 ghost use mathlib.Core.List.{_++_};
 ghost use Prim.Native.Nat.{_-_};
@@ -13,12 +14,15 @@ ghost use lib.ListN.{length, replicate};
 ghost use Rattle.rules.specs.Console.{printed};
 pub use lines::put_cell;
 
+// The bytes that are lent for what is printed: enough for every source.
+pub const OUTPUT_SIZE: usize = 32_768;
+
 // Assembles the source and runs the program, and writes what is printed for it; zeros after that, and its length told.
-pub fn print(source: &[u8], out: &mut [u8; 32768]) -> usize
+pub fn print(source: &[u8], out: &mut [u8; OUTPUT_SIZE]) -> usize
     ensures { λ r. ⌜ (r ≡ length (printed (now (source .entry)))) × (now (out .exit) ≡ printed (now (source .entry)) ++ replicate (32768 - length (printed (now (source .entry)))) 0) ⌝ }
 {
-    *out = [0; 32768];
-    let mut table = [0u64; 1024];
+    *out = [0; OUTPUT_SIZE];
+    let mut table = [0u64; sizes::MAX_PROGRAM];
     let made = assembler::assemble(source, &mut table);
     match made {
         Assembled::Made(length) => report::put_run(out, &table, length),

@@ -10,23 +10,26 @@ ghost use Rattle.rules.specs.Listing.{decimal};
 ghost use Rattle.rules.specs.Console.{line, cellLine};
 ghost use Rattle.digits.specs.Put.{Put};
 
+// Enough bytes for the line of a cell.
+const LINE_SIZE: usize = 64;
+
 // Writes "refused", a number and a place.
 pub(crate) fn put_refused(out: &mut [u8], number: usize, place: usize) -> usize
     ensures { λ r. ⌜ Put (now (out .entry)) (now (out .exit)) 0 (line (text "refused" ∷ decimal 9 number ∷ decimal 9 place ∷ [])) r ⌝ }
 {
-    let a = put_word(out, 0, b"refused", 32);
-    let b = a + put_number(out, a, number, 32);
-    b + put_number(out, b, place, 10)
+    let a = put_word(out, 0, b"refused", b' ');
+    let b = a + put_number(out, a, number, b' ');
+    b + put_number(out, b, place, b'\n')
 }
 
 // Writes the answer and the steps of a run.
 pub(crate) fn put_ending(out: &mut [u8], number: usize, steps: usize) -> usize
     ensures { λ r. ⌜ Put (now (out .entry)) (now (out .exit)) 0 (line (text "end" ∷ decimal 9 number ∷ text "steps" ∷ decimal 9 steps ∷ [])) r ⌝ }
 {
-    let a = put_word(out, 0, b"end", 32);
-    let b = a + put_number(out, a, number, 32);
-    let c = b + put_word(out, b, b"steps", 32);
-    c + put_number(out, c, steps, 10)
+    let a = put_word(out, 0, b"end", b' ');
+    let b = a + put_number(out, a, number, b' ');
+    let c = b + put_word(out, b, b"steps", b' ');
+    c + put_number(out, c, steps, b'\n')
 }
 
 // Writes PC, SP and FBR from `at` on.
@@ -34,19 +37,19 @@ pub(crate) fn put_registers(out: &mut [u8], at: usize, pc: usize, sp: usize, fbr
     requires { ⌜ at ≤ 64 ⌝ }
     ensures { λ r. ⌜ Put (now (out .entry)) (now (out .exit)) at (line (text "PC" ∷ decimal 9 pc ∷ text "SP" ∷ decimal 9 sp ∷ text "FBR" ∷ decimal 9 fbr ∷ [])) r ⌝ }
 {
-    let a = put_word(out, at, b"PC", 32);
-    let b = a + put_number(out, at + a, pc, 32);
-    let c = b + put_word(out, at + b, b"SP", 32);
-    let d = c + put_number(out, at + c, sp, 32);
-    let e = d + put_word(out, at + d, b"FBR", 32);
-    e + put_number(out, at + e, fbr, 10)
+    let a = put_word(out, at, b"PC", b' ');
+    let b = a + put_number(out, at + a, pc, b' ');
+    let c = b + put_word(out, at + b, b"SP", b' ');
+    let d = c + put_number(out, at + c, sp, b' ');
+    let e = d + put_word(out, at + d, b"FBR", b' ');
+    e + put_number(out, at + e, fbr, b'\n')
 }
 
 // Writes the line of a cell at the start.
 fn put_cell_line(out: &mut [u8], i: usize, bits: u32, tag: u8) -> usize
     ensures { λ r. ⌜ Put (now (out .entry)) (now (out .exit)) 0 (cellLine i (record { bits = bits; tag = tag })) r ⌝ }
 {
-    let a = put_number(out, 0, i, 32);
+    let a = put_number(out, 0, i, b' ');
     let b = a + put_tag(out, a, tag);
     b + put_value(out, b, bits, tag)
 }
@@ -55,7 +58,7 @@ fn put_cell_line(out: &mut [u8], i: usize, bits: u32, tag: u8) -> usize
 pub fn put_cell(out: &mut [u8], at: usize, i: usize, bits: u32, tag: u8) -> usize
     ensures { λ r. ⌜ Put (now (out .entry)) (now (out .exit)) at (cellLine i (record { bits = bits; tag = tag })) r ⌝ }
 {
-    let mut made = [0u8; 64];
+    let mut made = [0u8; LINE_SIZE];
     let n = put_cell_line(&mut made, i, bits, tag);
     digits::put_text(out, at, &made[..n])
 }

@@ -4,18 +4,26 @@ use crate::lines::put_ending;
 use crate::lines::put_registers;
 use crate::numbers::ending_number;
 use rules::Run;
+use rules::tags;
 ghost use mathlib.Core.Path.{_≡_};
 ghost use mathlib.Core.List.{[]};
 ghost use Prim.Native.Nat.{_≤_, _<_};
 ghost use lib.ListN.{length};
 ghost use Rattle.rules.specs.Table.{program};
 ghost use Rattle.rules.specs.State.{memory};
-ghost use Rattle.rules.specs.Console.{cellLines, report, consoleRun};
+ghost use Rattle.rules.specs.Console.{cellLines, report, consoleCells, consoleRun};
 ghost use Rattle.digits.specs.Put.{Put};
+
+// "The console program owns 1,000 cells, all INT 0, has H = 0 and limit 100,000"
+const CELLS: usize = 1_000;
+
+const PLACES: usize = 0;
+
+const LIMIT: usize = 100_000;
 
 // Writes the lines of the first `sp` cells.
 fn put_cells(out: &mut [u8], at: usize, sp: usize, bits: &[u32], tags: &[u8]) -> usize
-    requires { ⌜ (at ≤ 128) × (sp < 1000) × (length (now bits) ≡ 1000) × (length (now tags) ≡ 1000) ⌝ }
+    requires { ⌜ (at ≤ 128) × (sp < consoleCells) × (length (now bits) ≡ consoleCells) × (length (now tags) ≡ consoleCells) ⌝ }
     ensures { λ r. ⌜ Put (now (out .entry)) (now (out .exit)) at (cellLines (memory (now (bits .entry)) (now (tags .entry)) []) 0 sp) r ⌝ }
 {
     let mut told = 0;
@@ -29,7 +37,7 @@ fn put_cells(out: &mut [u8], at: usize, sp: usize, bits: &[u32], tags: &[u8]) ->
 
 // Writes the report of a run that left these cells.
 fn put_report(out: &mut [u8], ran: Run, bits: &[u32], tags: &[u8]) -> usize
-    requires { ⌜ (ran .registers .sp < 1000) × (length (now bits) ≡ 1000) × (length (now tags) ≡ 1000) ⌝ }
+    requires { ⌜ (ran .registers .sp < consoleCells) × (length (now bits) ≡ consoleCells) × (length (now tags) ≡ consoleCells) ⌝ }
     ensures { λ r. ⌜ Put (now (out .entry)) (now (out .exit)) 0 (report (record { answer = ran; memory = memory (now (bits .entry)) (now (tags .entry)) [] })) r ⌝ }
 {
     let ending = ran.ending;
@@ -44,9 +52,9 @@ fn put_report(out: &mut [u8], ran: Run, bits: &[u32], tags: &[u8]) -> usize
 pub(crate) fn put_run(out: &mut [u8], table: &[u64], length: usize) -> usize
     ensures { λ r. ⌜ Put (now (out .entry)) (now (out .exit)) 0 (report (consoleRun (program (now (table .entry)) length))) r ⌝ }
 {
-    let mut bits = [0u32; 1000];
-    let mut tags = [0u8; 1000];
-    let mut history = [0u64; 0];
+    let mut bits = [0u32; CELLS];
+    let mut tags = [tags::INT; CELLS];
+    let mut history = [0u64; PLACES];
     let start = state::reset(table, length, &mut bits, &mut tags, &mut history);
     let registers = start.registers;
     let ran = machine::run::run(
@@ -56,7 +64,7 @@ pub(crate) fn put_run(out: &mut [u8], table: &[u64], length: usize) -> usize
         &mut bits,
         &mut tags,
         &mut history,
-        100000,
+        LIMIT,
     );
     put_report(out, ran, &bits, &tags)
 }

@@ -1,5 +1,6 @@
 // The value of a cell, the last word of its line, with LF after it.
 use crate::words::put_number;
+use rules::tags;
 ghost use mathlib.Core.List.{[], _∷_, _++_};
 ghost use Prim.Native.Nat.{_≤_};
 ghost use Rattle.rules.specs.Bytes.{hash, LF};
@@ -12,9 +13,9 @@ fn put_pattern(out: &mut [u8], at: usize, bits: u32) -> usize
     requires { ⌜ at ≤ 64 ⌝ }
     ensures { λ r. ⌜ Put (now (out .entry)) (now (out .exit)) at ((hash ∷ hex 8 bits) ++ LF ∷ []) r ⌝ }
 {
-    digits::put_byte(out, at, 0, 35);
+    digits::put_byte(out, at, 0, b'#');
     let n = digits::put_hex(out, at + 1, bits);
-    digits::put_byte(out, at, n + 1, 10);
+    digits::put_byte(out, at, n + 1, b'\n');
     n + 2
 }
 
@@ -23,7 +24,7 @@ fn put_signed(out: &mut [u8], at: usize, bits: u32) -> usize
     ensures { λ r. ⌜ Put (now (out .entry)) (now (out .exit)) at (signedText bits ++ LF ∷ []) r ⌝ }
 {
     let n = digits::put_signed(out, at, bits);
-    digits::put_byte(out, at, n, 10);
+    digits::put_byte(out, at, n, b'\n');
     n + 1
 }
 
@@ -32,11 +33,11 @@ pub(crate) fn put_value(out: &mut [u8], at: usize, bits: u32, tag: u8) -> usize
     requires { ⌜ at ≤ 64 ⌝ }
     ensures { λ r. ⌜ Put (now (out .entry)) (now (out .exit)) at (valueText bits tag ++ LF ∷ []) r ⌝ }
 {
-    if tag == 1 {
+    if tag == tags::FLOAT {
         return put_pattern(out, at, bits);
     }
-    if tag == 3 {
-        return put_number(out, at, bits as usize, 10);
+    if tag == tags::PA {
+        return put_number(out, at, bits as usize, b'\n');
     }
     put_signed(out, at, bits)
 }

@@ -1,4 +1,5 @@
 // The words of a line, each with the byte after it.
+use rules::tags;
 ghost use mathlib.Core.List.{[], _∷_, _++_};
 ghost use Rattle.rules.specs.Bytes.{space};
 ghost use Rattle.rules.specs.Listing.{decimal};
@@ -27,18 +28,18 @@ pub(crate) fn put_number(out: &mut [u8], at: usize, n: usize, after: u8) -> usiz
 pub(crate) fn put_tag(out: &mut [u8], at: usize, tag: u8) -> usize
     ensures { λ r. ⌜ Put (now (out .entry)) (now (out .exit)) at (tagName tag ++ space ∷ []) r ⌝ }
 {
-    if tag == 0 {
-        return put_word(out, at, b"INT", 32);
+    if tag == tags::INT {
+        return put_word(out, at, b"INT", b' ');
     }
-    if tag == 1 {
-        return put_word(out, at, b"FLOAT", 32);
+    if tag == tags::FLOAT {
+        return put_word(out, at, b"FLOAT", b' ');
     }
-    if tag == 2 {
-        return put_word(out, at, b"MA", 32);
+    if tag == tags::MA {
+        return put_word(out, at, b"MA", b' ');
     }
-    if tag == 3 {
-        return put_word(out, at, b"PA", 32);
+    if tag == tags::PA {
+        return put_word(out, at, b"PA", b' ');
     }
-    digits::put_byte(out, at, 0, 32);
+    digits::put_byte(out, at, 0, b' ');
     1
 }

@@ -1,12 +1,23 @@
 // Numbers as text in lent bytes: decimal, signed and hex. Each writer tells how long its text is, and writes as much of it as the slice has
 // room for, so that none of them can fail.
 
+use rules::words;
 ghost use mathlib.Core.Path.{_≡_};
 ghost use Prim.Native.Nat.{ℕ, _+_, _≤_, _<_};
 ghost use lib.ListN.{length, set};
 ghost use lib.Seq.{sets};
 ghost use Rattle.rules.specs.Listing.{decimal, signedText, hexByte, hex};
 ghost use Rattle.digits.specs.Put.{Put};
+
+// The bases of decimal and hex digits.
+const DECIMAL: u64 = 10;
+
+const HEX: u32 = 16;
+
+// A number of 32 bits has at most ten decimal digits, so many after the first, and eight hex digits.
+const MORE_DIGITS: usize = 9;
+
+const HEX_DIGITS: usize = 8;
 
 // Writes a byte at the place `at` + `i`, where the slice has that place.
 pub fn put_byte(out: &mut [u8], at: usize, i: usize, b: u8)
@@ -28,15 +39,15 @@ fn put_digits(out: &mut [u8], at: usize, i: usize, n: u64, k: usize) -> usize
     ensures { λ r. ⌜ (r ≡ i + length (decimal k n)) × (now (out .exit) ≡ sets (now (out .entry)) (at + i) (decimal k n)) ⌝ }
 {
     if k == 0 {
-        put_byte(out, at, i, (48 + n % 10) as u8);
+        put_byte(out, at, i, b'0' + (n % DECIMAL) as u8);
         return i + 1;
     }
-    if n < 10 {
-        put_byte(out, at, i, (48 + n % 10) as u8);
+    if n < DECIMAL {
+        put_byte(out, at, i, b'0' + (n % DECIMAL) as u8);
         return i + 1;
     }
-    let p = put_digits(out, at, i, n / 10, k - 1);
-    put_byte(out, at, p, (48 + n % 10) as u8);
+    let p = put_digits(out, at, i, n / DECIMAL, k - 1);
+    put_byte(out, at, p, b'0' + (n % DECIMAL) as u8);
     p + 1
 }
 
@@ -44,18 +55,18 @@ fn put_digits(out: &mut [u8], at: usize, i: usize, n: u64, k: usize) -> usize
 pub fn put_decimal(out: &mut [u8], at: usize, n: u64) -> usize
     ensures { λ r. ⌜ Put (now (out .entry)) (now (out .exit)) at (decimal 9 n) r ⌝ }
 {
-    put_digits(out, at, 0, n, 9)
+    put_digits(out, at, 0, n, MORE_DIGITS)
 }
 
 // Writes 32 bits, read as two's complement, in decimal.
 pub fn put_signed(out: &mut [u8], at: usize, b: u32) -> usize
     ensures { λ r. ⌜ Put (now (out .entry)) (now (out .exit)) at (signedText b) r ⌝ }
 {
-    if b < 2147483648 {
-        return put_digits(out, at, 0, b as u64, 9);
+    if b < words::LOWEST {
+        return put_digits(out, at, 0, b as u64, MORE_DIGITS);
     }
-    put_byte(out, at, 0, 45);
-    put_digits(out, at, 1, 4294967296 - (b as u64), 9)
+    put_byte(out, at, 0, b'-');
+    put_digits(out, at, 1, words::MODULUS - (b as u64), MORE_DIGITS)
 }
 
 // A hex digit, in capitals.
@@ -64,9 +75,9 @@ fn hex_byte(digit: u32) -> u8
     ensures { λ r. ⌜ r ≡ hexByte digit ⌝ }
 {
     if digit < 10 {
-        return (48 + digit) as u8;
+        return b'0' + digit as u8;
     }
-    (55 + digit) as u8
+    b'A' + (digit as u8 - 10)
 }
 
 // Writes the last `k` hex digits of `n` at `at`.
@@ -77,16 +88,16 @@ fn put_hex_digits(out: &mut [u8], at: usize, n: u32, k: usize)
     if k == 0 {
         return;
     }
-    put_hex_digits(out, at, n / 16, k - 1);
-    put_byte(out, at, k - 1, hex_byte(n % 16));
+    put_hex_digits(out, at, n / HEX, k - 1);
+    put_byte(out, at, k - 1, hex_byte(n % HEX));
 }
 
 // Writes 32 bits as eight hex digits.
 pub fn put_hex(out: &mut [u8], at: usize, n: u32) -> usize
     ensures { λ r. ⌜ Put (now (out .entry)) (now (out .exit)) at (hex 8 n) r ⌝ }
 {
-    put_hex_digits(out, at, n, 8);
-    8
+    put_hex_digits(out, at, n, HEX_DIGITS);
+    HEX_DIGITS
 }
 
 // Writes a text.

@@ -5,11 +5,20 @@ ghost use lib.Ieee.{binary32, ofBits, toBits, isNan};
 ghost use Rattle.rules.specs.Floats.{plusF, minusF, timesF, quotientF, unordered, orderedF};
 use word::tests::sense;
 
+// The bit of the sign.
+const SIGN: u32 = 0x8000_0000;
+
+// The bits of an infinity.
+const INFINITY: u32 = 0x7f80_0000;
+
+// "A NaN result is #7FC00000."
+const NAN: u32 = 0x7fc0_0000;
+
 // Whether the bits are a NaN's: without the sign, above those of an infinity.
 fn is_nan(b: u32) -> bool
     ensures { λ r. ⌜ r ≡ isNan (ofBits binary32 b) ⌝ }
 {
-    b % 2147483648 > 2139095040
+    b % SIGN > INFINITY
 }
 
 // The value that the bits stand for.
@@ -27,7 +36,7 @@ fn value_of(b: u32) -> f32
 fn bits_of(x: f32) -> u32
     ensures { λ r. ⌜ r ≡ toBits binary32 x ⌝ }
 {
-    if x != x { 2143289344 } else { f32::to_bits(x) }
+    if x != x { NAN } else { f32::to_bits(x) }
 }
 
 // ADDF: the sum, rounded once.

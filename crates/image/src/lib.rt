@@ -1,6 +1,7 @@
 // The packer and the unpacker: a program's table as an image of bits, and back.
 use rules::ImageRefusal;
 use rules::Packed;
+use rules::sizes;
 
 mod fields;
 mod operands;
@@ -16,7 +17,7 @@ pub fn pack(table: &[u64], length: usize, image: &mut [u8]) -> Packed
     ensures answer { λ r. ⌜ r ≡ pack (program (now (table .entry)) length) (now (image .entry)) .answer ⌝ }
     ensures output { λ r. ⌜ now (image .exit) ≡ pack (program (now (table .entry)) length) (now (image .entry)) .output ⌝ }
 {
-    if image.len() != 4866 {
+    if image.len() != sizes::IMAGE_SIZE {
         return Packed::Denied(ImageRefusal::OutputLength);
     }
     writing::clear_bytes(image);
@@ -31,7 +32,7 @@ pub fn unpack(image: &[u8], table: &mut [u64]) -> Packed
     ensures answer { λ r. ⌜ r ≡ unpack (now (image .entry)) (now (table .entry)) .answer ⌝ }
     ensures output { λ r. ⌜ now (table .exit) ≡ unpack (now (image .entry)) (now (table .entry)) .output ⌝ }
 {
-    if table.len() != 1024 {
+    if table.len() != sizes::MAX_PROGRAM {
         return Packed::Denied(ImageRefusal::OutputLength);
     }
     reading::read_image(image, table)

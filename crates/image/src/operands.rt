@@ -1,8 +1,18 @@
-// An operand in an image: its width, and the 32 bits that it has in a table.
+// The fields of an image: the widths of the count, a code and an operand, and the 32 bits that an operand has in a table.
 use rules::Kind;
 ghost use mathlib.Core.Path.{_≡_};
 ghost use Prim.Native.Nat.{_^_, _<_};
 ghost use Rattle.rules.specs.Image.{widthOf, extended};
+
+// "Image: count 11 bits; each code 6 bits"
+pub(crate) const COUNT_WIDTH: usize = 11;
+
+pub(crate) const CODE_WIDTH: usize = 6;
+
+// An offset's sign in an image, and the bits before the sign in a table, which are as it is.
+const OFFSET_SIGN: u32 = 0x400;
+
+const BEFORE_SIGN: u32 = 0xffff_f800;
 
 // The bits of an operand of the kind.
 pub(crate) fn width_of(kind: Kind) -> usize
@@ -27,10 +37,10 @@ pub(crate) fn table_bits(kind: Kind, v: u32) -> u32
         Kind::Immediate => v,
         Kind::Pattern => v,
         Kind::Offset => {
-            if v < 1024 {
+            if v < OFFSET_SIGN {
                 return v;
             }
-            v + 4294965248
+            v + BEFORE_SIGN
         }
         Kind::Target => v,
     }

@@ -1,5 +1,7 @@
 // The packer's part that writes: instruction after instruction, over zeros.
 use crate::fields::put;
+use crate::operands::CODE_WIDTH;
+use crate::operands::COUNT_WIDTH;
 use crate::operands::width_of;
 use program::kinds::kind_of;
 use program::table::code_of;
@@ -10,7 +12,7 @@ ghost use lib.ListN.{length, replicate};
 ghost use Rattle.rules.specs.Lists.{splice};
 ghost use Rattle.rules.specs.Fields.{bitsOf};
 ghost use Rattle.rules.specs.Table.{program};
-ghost use Rattle.rules.specs.Sizes.{imageSize};
+ghost use Rattle.rules.specs.Sizes.{maxProgram, imageSize};
 ghost use Rattle.rules.specs.Image.{instructionBits, imageBits, imageLength, packedTo};
 
 pub(crate) fn clear_bytes(image: &mut [u8])
@@ -31,19 +33,19 @@ fn put_instruction(image: &mut [u8], at: usize, place: u64) -> usize
 {
     let code = code_of(place);
     let width = width_of(kind_of(code));
-    put(image, at, 6, code as u32);
-    put(image, at + 6, width, operand_of(place));
-    at + 6 + width
+    put(image, at, CODE_WIDTH, code as u32);
+    put(image, at + CODE_WIDTH, width, operand_of(place));
+    at + CODE_WIDTH + width
 }
 
 // Writes the image of the program over zeros, and tells its length in bytes.
 pub(crate) fn write_image(table: &[u64], count: usize, image: &mut [u8]) -> usize
-    requires { ⌜ (count ≤ 1024) × (count ≤ length (now table)) × (now image ≡ replicate imageSize 0) ⌝ }
+    requires { ⌜ (count ≤ maxProgram) × (count ≤ length (now table)) × (now image ≡ replicate imageSize 0) ⌝ }
     ensures bytes { λ r. ⌜ now (image .exit) ≡ packedTo imageSize (imageBits (program (now (table .entry)) count)) ⌝ }
     ensures told { λ r. ⌜ r ≡ imageLength (program (now (table .entry)) count) ⌝ }
 {
-    put(image, 0, 11, count as u32);
-    let mut at = 11;
+    put(image, 0, COUNT_WIDTH, count as u32);
+    let mut at = COUNT_WIDTH;
     let mut i = 0;
     while i < count {
         at = put_instruction(image, at, table[i]);

@@ -4,6 +4,7 @@ mod lines;
 
 use rules::Listed;
 use rules::TextRefusal;
+use rules::sizes;
 ghost use mathlib.Core.Path.{_≡_};
 ghost use Rattle.rules.specs.Table.{program};
 ghost use Rattle.rules.specs.Listing.{list};
@@ -13,7 +14,7 @@ ghost use Rattle.rules.specs.Listing.{list};
 pub fn list(table: &[u64], length: usize, text: &mut [u8]) -> Listed
     ensures { λ r. ⌜ (r ≡ list (program (now (table .entry)) length) (now (text .entry)) .answer) × (now (text .exit) ≡ list (program (now (table .entry)) length) (now (text .entry)) .bytes) ⌝ }
 {
-    if text.len() != 20480 {
+    if text.len() != sizes::LISTING_SIZE {
         return Listed::Failed(TextRefusal::WrongLength);
     }
     lines::clear(text);

@@ -4,6 +4,7 @@ ghost use mathlib.Core.Path.{_≡_};
 ghost use mathlib.Core.List.{_∷_};
 ghost use Prim.Native.Nat.{_≤_};
 ghost use lib.ListN.{length};
+ghost use Rattle.rules.specs.Sizes.{listingSize};
 ghost use Rattle.rules.specs.Bytes.{space, hash};
 ghost use Rattle.rules.specs.Instructions.{nameOf};
 ghost use Rattle.rules.specs.Listing.{decimal, signedText, hex, operandText, spaced, lineOf};
@@ -28,7 +29,7 @@ fn put_number(out: &mut [u8], at: usize, v: u32) -> usize
     requires { ⌜ at ≤ 32768 ⌝ }
     ensures { λ r. ⌜ Put (now (out .entry)) (now (out .exit)) at (space ∷ signedText v) r ⌝ }
 {
-    digits::put_byte(out, at, 0, 32);
+    digits::put_byte(out, at, 0, b' ');
     let n = digits::put_signed(out, at + 1, v);
     n + 1
 }
@@ -38,8 +39,8 @@ fn put_pattern(out: &mut [u8], at: usize, v: u32) -> usize
     requires { ⌜ at ≤ 32768 ⌝ }
     ensures { λ r. ⌜ Put (now (out .entry)) (now (out .exit)) at (space ∷ hash ∷ hex 8 v) r ⌝ }
 {
-    digits::put_byte(out, at, 0, 32);
-    digits::put_byte(out, at, 1, 35);
+    digits::put_byte(out, at, 0, b' ');
+    digits::put_byte(out, at, 1, b'#');
     let n = digits::put_hex(out, at + 2, v);
     n + 2
 }
@@ -49,7 +50,7 @@ fn put_target(out: &mut [u8], at: usize, v: u32) -> usize
     requires { ⌜ at ≤ 32768 ⌝ }
     ensures { λ r. ⌜ Put (now (out .entry)) (now (out .exit)) at (space ∷ decimal 9 v) r ⌝ }
 {
-    digits::put_byte(out, at, 0, 32);
+    digits::put_byte(out, at, 0, b' ');
     let n = digits::put_decimal(out, at + 1, v as u64);
     n + 1
 }
@@ -70,7 +71,7 @@ fn put_operand(out: &mut [u8], at: usize, kind: Kind, v: u32) -> usize
 
 // Writes the line of a place.
 pub(crate) fn put_line(out: &mut [u8], at: usize, place: u64) -> usize
-    requires { ⌜ (at ≤ 20480) × (length (lineOf place) ≤ 20) ⌝ }
+    requires { ⌜ (at ≤ listingSize) × (length (lineOf place) ≤ 20) ⌝ }
     ensures { λ r. ⌜ Put (now (out .entry)) (now (out .exit)) at (lineOf place) r ⌝ }
 {
     let code = program::table::code_of(place);
@@ -78,6 +79,6 @@ pub(crate) fn put_line(out: &mut [u8], at: usize, place: u64) -> usize
     let v = program::table::operand_of(place);
     let n = put_name(out, at, code);
     let m = put_operand(out, at + n, kind, v);
-    digits::put_byte(out, at, n + m, 10);
+    digits::put_byte(out, at, n + m, b'\n');
     n + m + 1
 }

@@ -1,35 +1,46 @@
 // Number operands as text: an optional minus and digits within bounds, and the bits of PUSHIMMF. It follows "Text, table, image" of document 01.
 
 use rules::Numeral;
+use rules::words;
 ghost use mathlib.Core.Path.{_≡_};
 ghost use Prim.Native.Nat.{_+_, _≤_};
 ghost use lib.ListN.{length, drop};
 ghost use Rattle.rules.specs.Operands.{digitOf, allDigits, numeral, signs, ranged, numberOf, patternOf};
 
+// The bases of the digits: a byte that is no digit counts for the higher one.
+const DECIMAL: u64 = 10;
+
+const HEX: u64 = 16;
+
+// "more than 10 digits is 25"
+const MAX_DIGITS: usize = 10;
+
+// "`#` and eight hex digits"
+const PATTERN_SIZE: usize = 9;
+
 // What a byte counts for as a digit: 16 where it is none.
 fn digit_of(b: u8) -> u64
     ensures { λ r. ⌜ (r ≡ digitOf b) × (r ≤ 16) ⌝ }
 {
-    let v = b as u64;
-    if v < 48 {
-        return 16;
+    if b < b'0' {
+        return HEX;
     }
-    if v < 58 {
-        return v - 48;
+    if b <= b'9' {
+        return (b - b'0') as u64;
     }
-    if v < 65 {
-        return 16;
+    if b < b'A' {
+        return HEX;
     }
-    if v < 71 {
-        return v - 55;
+    if b <= b'F' {
+        return (b - b'A') as u64 + DECIMAL;
     }
-    if v < 97 {
-        return 16;
+    if b < b'a' {
+        return HEX;
     }
-    if v < 103 {
-        return v - 87;
+    if b <= b'f' {
+        return (b - b'a') as u64 + DECIMAL;
     }
-    16
+    HEX
 }
 
 // Whether each byte from `first` on is a digit in the base.
@@ -68,7 +79,7 @@ fn signs_of(t: &[u8]) -> usize
     if t.len() == 0 {
         return 0;
     }
-    if t[0] == 45 {
+    if t[0] == b'-' {
         return 1;
     }
     0
@@ -82,7 +93,7 @@ fn in_range(least: u32, most: u32, negative: bool, n: u64) -> Numeral
         if n > least as u64 {
             return Numeral::OutOfRange;
         }
-        return Numeral::Value(((4294967296 - n) % 4294967296) as u32);
+        return Numeral::Value(((words::MODULUS - n) % words::MODULUS) as u32);
     }
     if n > most as u64 {
         return Numeral::OutOfRange;
@@ -98,28 +109,28 @@ pub fn number_of(t: &[u8], least: u32, most: u32) -> Numeral
     if first == t.len() {
         return Numeral::WrongForm;
     }
-    if !all_digits(t, first, 10) {
+    if !all_digits(t, first, DECIMAL) {
         return Numeral::WrongForm;
     }
-    if t.len() - first > 10 {
+    if t.len() - first > MAX_DIGITS {
         return Numeral::OutOfRange;
     }
-    in_range(least, most, first == 1, numeral_at(t, first, 10))
+    in_range(least, most, first == 1, numeral_at(t, first, DECIMAL))
 }
 
 // The bits of PUSHIMMF: `#` and eight hex digits.
 pub fn pattern_of(t: &[u8]) -> Numeral
     ensures { λ r. ⌜ r ≡ patternOf (now (t .entry)) ⌝ }
 {
-    if t.len() != 9 {
+    if t.len() != PATTERN_SIZE {
         return Numeral::WrongForm;
     }
-    if t[0] != 35 {
+    if t[0] != b'#' {
         return Numeral::WrongForm;
     }
-    if !all_digits(t, 1, 16) {
+    if !all_digits(t, 1, HEX) {
         return Numeral::WrongForm;
     }
-    let n = numeral_at(t, 1, 16);
+    let n = numeral_at(t, 1, HEX);
     Numeral::Value(n as u32)
 }

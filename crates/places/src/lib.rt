@@ -3,79 +3,115 @@
 ghost use mathlib.Core.Path.{_≡_};
 ghost use Rattle.rules.specs.Places.{cellPlace, stepPlace, mark, cellAddress, cellTag, cellBits, cellZeros, stepPc, stepSp, stepFbr, stepCount, stepZeros};
 
+// The mark of a cell place, and that of a step place.
+pub const CELL_MARK: u64 = 0;
+
+pub const STEP_MARK: u64 = 1;
+
+// The weight of a field is what 1 counts for in it, and its span is how many numbers it has room for.
+// The mark stands first in both kinds of place.
+const MARK_WEIGHT: u64 = 0x8000_0000_0000_0000;
+
+// "address 10, old tag 2, old bits 32, 19 zeros"
+const ADDRESS_WEIGHT: u64 = 0x0020_0000_0000_0000;
+
+const TAG_WEIGHT: u64 = 0x0008_0000_0000_0000;
+
+const BITS_WEIGHT: u64 = 0x0000_0000_0008_0000;
+
+// "old PC 11, old SP 10, old FBR 10, cells written 10, 22 zeros"
+const PC_WEIGHT: u64 = 0x0010_0000_0000_0000;
+
+const SP_WEIGHT: u64 = 0x0000_0400_0000_0000;
+
+const FBR_WEIGHT: u64 = 0x0000_0001_0000_0000;
+
+const COUNT_WEIGHT: u64 = 0x0000_0000_0040_0000;
+
+// An address, SP, FBR and a count of cells have ten bits.
+const CELL_SPAN: u64 = 0x400;
+
+const TAG_SPAN: u64 = 0x4;
+
+const BITS_SPAN: u64 = 0x1_0000_0000;
+
+const PC_SPAN: u64 = 0x800;
+
 // The cell place that keeps a cell's old tag and bits.
 pub fn cell_place(address: usize, tag: u8, bits: u32) -> u64
     ensures { λ r. ⌜ r ≡ cellPlace address tag bits ⌝ }
 {
-    (((address % 1024) as u64 * 4 + (tag % 4) as u64) * 4294967296 + bits as u64) * 524288
+    (address as u64 % CELL_SPAN) * ADDRESS_WEIGHT
+        + (tag as u64 % TAG_SPAN) * TAG_WEIGHT
+        + bits as u64 * BITS_WEIGHT
 }
 
 // The step place that keeps the old PC, SP and FBR, and tells how many cells were written.
 pub fn step_place(pc: usize, sp: usize, fbr: usize, count: usize) -> u64
     ensures { λ r. ⌜ r ≡ stepPlace pc sp fbr count ⌝ }
 {
-    let marked = 2048 + (pc % 2048) as u64;
-    let stack = (sp % 1024) as u64 * 1024 + (fbr % 1024) as u64;
-    ((marked * 1048576 + stack) * 1024 + (count % 1024) as u64) * 4194304
+    let marked = MARK_WEIGHT + (pc as u64 % PC_SPAN) * PC_WEIGHT;
+    let stack = (sp as u64 % CELL_SPAN) * SP_WEIGHT + (fbr as u64 % CELL_SPAN) * FBR_WEIGHT;
+    marked + stack + (count as u64 % CELL_SPAN) * COUNT_WEIGHT
 }
 
-// The mark: 0 for a cell place, 1 for a step place.
+// The mark of a place.
 pub fn mark_of(place: u64) -> u64
     ensures { λ r. ⌜ r ≡ mark place ⌝ }
 {
-    place / 9223372036854775808 % 2
+    place / MARK_WEIGHT % 2
 }
 
 pub fn cell_address(place: u64) -> usize
     ensures { λ r. ⌜ r ≡ cellAddress place ⌝ }
 {
-    (place / 9007199254740992 % 1024) as usize
+    (place / ADDRESS_WEIGHT % CELL_SPAN) as usize
 }
 
 pub fn cell_tag(place: u64) -> u8
     ensures { λ r. ⌜ r ≡ cellTag place ⌝ }
 {
-    (place / 2251799813685248 % 4) as u8
+    (place / TAG_WEIGHT % TAG_SPAN) as u8
 }
 
 pub fn cell_bits(place: u64) -> u32
     ensures { λ r. ⌜ r ≡ cellBits place ⌝ }
 {
-    (place / 524288 % 4294967296) as u32
+    (place / BITS_WEIGHT % BITS_SPAN) as u32
 }
 
 pub fn cell_zeros(place: u64) -> u64
     ensures { λ r. ⌜ r ≡ cellZeros place ⌝ }
 {
-    place % 524288
+    place % BITS_WEIGHT
 }
 
 pub fn step_pc(place: u64) -> usize
     ensures { λ r. ⌜ r ≡ stepPc place ⌝ }
 {
-    (place / 4503599627370496 % 2048) as usize
+    (place / PC_WEIGHT % PC_SPAN) as usize
 }
 
 pub fn step_sp(place: u64) -> usize
     ensures { λ r. ⌜ r ≡ stepSp place ⌝ }
 {
-    (place / 4398046511104 % 1024) as usize
+    (place / SP_WEIGHT % CELL_SPAN) as usize
 }
 
 pub fn step_fbr(place: u64) -> usize
     ensures { λ r. ⌜ r ≡ stepFbr place ⌝ }
 {
-    (place / 4294967296 % 1024) as usize
+    (place / FBR_WEIGHT % CELL_SPAN) as usize
 }
 
 pub fn step_count(place: u64) -> usize
     ensures { λ r. ⌜ r ≡ stepCount place ⌝ }
 {
-    (place / 4194304 % 1024) as usize
+    (place / COUNT_WEIGHT % CELL_SPAN) as usize
 }
 
 pub fn step_zeros(place: u64) -> u64
     ensures { λ r. ⌜ r ≡ stepZeros place ⌝ }
 {
-    place % 4194304
+    place % COUNT_WEIGHT
 }

@@ -1,5 +1,7 @@
 // The kinds of operand: which code has which, and which operands are in range.
 use rules::Kind;
+use rules::codes;
+use rules::sizes;
 ghost use mathlib.Core.Path.{_≡_};
 ghost use Rattle.rules.specs.Instructions.{kindOf};
 ghost use Rattle.rules.specs.Table.{within};
@@ -9,15 +11,15 @@ pub fn kind_of(code: usize) -> Kind
     ensures { λ r. ⌜ r ≡ kindOf code ⌝ }
 {
     match code {
-        1 => Kind::Immediate,
-        2 => Kind::Pattern,
-        39 => Kind::Offset,
-        42 => Kind::Offset,
-        43 => Kind::Offset,
-        44 => Kind::Target,
-        45 => Kind::Target,
-        47 => Kind::Target,
-        49 => Kind::Target,
+        codes::PUSHIMM => Kind::Immediate,
+        codes::PUSHIMMF => Kind::Pattern,
+        codes::ADDSP => Kind::Offset,
+        codes::PUSHOFF => Kind::Offset,
+        codes::STOREOFF => Kind::Offset,
+        codes::JUMP => Kind::Target,
+        codes::JUMPC => Kind::Target,
+        codes::JSR => Kind::Target,
+        codes::PUSHIMMPA => Kind::Target,
         _ => Kind::Bare,
     }
 }
@@ -31,10 +33,10 @@ pub fn is_within(kind: Kind, count: usize, operand: u32) -> bool
         Kind::Immediate => true,
         Kind::Pattern => true,
         Kind::Offset => {
-            if operand <= 999 {
+            if operand <= sizes::MAX_OFFSET {
                 return true;
             }
-            4294966297 <= operand
+            sizes::MIN_OFFSET <= operand
         }
         Kind::Target => operand as usize <= count,
     }

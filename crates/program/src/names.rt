@@ -1,4 +1,5 @@
 // The names of the instructions.
+use rules::codes;
 ghost use mathlib.Core.Path.{_≡_};
 ghost use mathlib.Core.Bool.{Bool};
 ghost use Prim.Native.Nat.{_<_};
@@ -7,462 +8,64 @@ ghost use Rattle.rules.specs.Lists.{same};
 ghost use Rattle.rules.specs.Instructions.{nameOf};
 ghost use Rattle.rules.specs.Assemble.{codeNamed};
 
-// The names by code, each in nine bytes with zeros after it.
-const NAMES: [u8; 450] = [
-    83,
-    84,
-    79,
-    80,
-    0,
-    0,
-    0,
-    0,
-    0,
-    80,
-    85,
-    83,
-    72,
-    73,
-    77,
-    77,
-    0,
-    0,
-    80,
-    85,
-    83,
-    72,
-    73,
-    77,
-    77,
-    70,
-    0,
-    68,
-    85,
-    80,
-    0,
-    0,
-    0,
-    0,
-    0,
-    0,
-    83,
-    87,
-    65,
-    80,
-    0,
-    0,
-    0,
-    0,
-    0,
-    65,
-    68,
-    68,
-    0,
-    0,
-    0,
-    0,
-    0,
-    0,
-    83,
-    85,
-    66,
-    0,
-    0,
-    0,
-    0,
-    0,
-    0,
-    84,
-    73,
-    77,
-    69,
-    83,
-    0,
-    0,
-    0,
-    0,
-    68,
-    73,
-    86,
-    0,
-    0,
-    0,
-    0,
-    0,
-    0,
-    77,
-    79,
-    68,
-    0,
-    0,
-    0,
-    0,
-    0,
-    0,
-    65,
-    68,
-    68,
-    70,
-    0,
-    0,
-    0,
-    0,
-    0,
-    83,
-    85,
-    66,
-    70,
-    0,
-    0,
-    0,
-    0,
-    0,
-    84,
-    73,
-    77,
-    69,
-    83,
-    70,
-    0,
-    0,
-    0,
-    68,
-    73,
-    86,
-    70,
-    0,
-    0,
-    0,
-    0,
-    0,
-    65,
-    78,
-    68,
-    0,
-    0,
-    0,
-    0,
-    0,
-    0,
-    79,
-    82,
-    0,
-    0,
-    0,
-    0,
-    0,
-    0,
-    0,
-    78,
-    65,
-    78,
-    68,
-    0,
-    0,
-    0,
-    0,
-    0,
-    78,
-    79,
-    82,
-    0,
-    0,
-    0,
-    0,
-    0,
-    0,
-    88,
-    79,
-    82,
-    0,
-    0,
-    0,
-    0,
-    0,
-    0,
-    78,
-    79,
-    84,
-    0,
-    0,
-    0,
-    0,
-    0,
-    0,
-    66,
-    73,
-    84,
-    65,
-    78,
-    68,
-    0,
-    0,
-    0,
-    66,
-    73,
-    84,
-    79,
-    82,
-    0,
-    0,
-    0,
-    0,
-    66,
-    73,
-    84,
-    78,
-    65,
-    78,
-    68,
-    0,
-    0,
-    66,
-    73,
-    84,
-    78,
-    79,
-    82,
-    0,
-    0,
-    0,
-    66,
-    73,
-    84,
-    88,
-    79,
-    82,
-    0,
-    0,
-    0,
-    66,
-    73,
-    84,
-    78,
-    79,
-    84,
-    0,
-    0,
-    0,
-    67,
-    77,
-    80,
-    0,
-    0,
-    0,
-    0,
-    0,
-    0,
-    67,
-    77,
-    80,
-    70,
-    0,
-    0,
-    0,
-    0,
-    0,
-    71,
-    82,
-    69,
-    65,
-    84,
-    69,
-    82,
-    0,
-    0,
-    76,
-    69,
-    83,
-    83,
-    0,
-    0,
-    0,
-    0,
-    0,
-    69,
-    81,
-    85,
-    65,
-    76,
-    0,
-    0,
-    0,
-    0,
-    73,
-    83,
-    78,
-    73,
-    76,
-    0,
-    0,
-    0,
-    0,
-    73,
-    83,
-    80,
-    79,
-    83,
-    0,
-    0,
-    0,
-    0,
-    73,
-    83,
-    78,
-    69,
-    71,
-    0,
-    0,
-    0,
-    0,
-    80,
-    85,
-    83,
-    72,
-    83,
-    80,
-    0,
-    0,
-    0,
-    80,
-    79,
-    80,
-    83,
-    80,
-    0,
-    0,
-    0,
-    0,
-    80,
-    85,
-    83,
-    72,
-    70,
-    66,
-    82,
-    0,
-    0,
-    80,
-    79,
-    80,
-    70,
-    66,
-    82,
-    0,
-    0,
-    0,
-    76,
-    73,
-    78,
-    75,
-    0,
-    0,
-    0,
-    0,
-    0,
-    65,
-    68,
-    68,
-    83,
-    80,
-    0,
-    0,
-    0,
-    0,
-    80,
-    85,
-    83,
-    72,
-    73,
-    78,
-    68,
-    0,
-    0,
-    83,
-    84,
-    79,
-    82,
-    69,
-    73,
-    78,
-    68,
-    0,
-    80,
-    85,
-    83,
-    72,
-    79,
-    70,
-    70,
-    0,
-    0,
-    83,
-    84,
-    79,
-    82,
-    69,
-    79,
-    70,
-    70,
-    0,
-    74,
-    85,
-    77,
-    80,
-    0,
-    0,
-    0,
-    0,
-    0,
-    74,
-    85,
-    77,
-    80,
-    67,
-    0,
-    0,
-    0,
-    0,
-    74,
-    85,
-    77,
-    80,
-    73,
-    78,
-    68,
-    0,
-    0,
-    74,
-    83,
-    82,
-    0,
-    0,
-    0,
-    0,
-    0,
-    0,
-    74,
-    83,
-    82,
-    73,
-    78,
-    68,
-    0,
-    0,
-    0,
-    80,
-    85,
-    83,
-    72,
-    73,
-    77,
-    77,
-    80,
-    65,
-];
+// The length of the longest name.
+const NAME_SIZE: usize = 9;
+
+// The names by code, each with zeros after it.
+const NAMES: [u8; codes::COUNT * NAME_SIZE] = *b"\
+    STOP\0\0\0\0\0\
+    PUSHIMM\0\0\
+    PUSHIMMF\0\
+    DUP\0\0\0\0\0\0\
+    SWAP\0\0\0\0\0\
+    ADD\0\0\0\0\0\0\
+    SUB\0\0\0\0\0\0\
+    TIMES\0\0\0\0\
+    DIV\0\0\0\0\0\0\
+    MOD\0\0\0\0\0\0\
+    ADDF\0\0\0\0\0\
+    SUBF\0\0\0\0\0\
+    TIMESF\0\0\0\
+    DIVF\0\0\0\0\0\
+    AND\0\0\0\0\0\0\
+    OR\0\0\0\0\0\0\0\
+    NAND\0\0\0\0\0\
+    NOR\0\0\0\0\0\0\
+    XOR\0\0\0\0\0\0\
+    NOT\0\0\0\0\0\0\
+    BITAND\0\0\0\
+    BITOR\0\0\0\0\
+    BITNAND\0\0\
+    BITNOR\0\0\0\
+    BITXOR\0\0\0\
+    BITNOT\0\0\0\
+    CMP\0\0\0\0\0\0\
+    CMPF\0\0\0\0\0\
+    GREATER\0\0\
+    LESS\0\0\0\0\0\
+    EQUAL\0\0\0\0\
+    ISNIL\0\0\0\0\
+    ISPOS\0\0\0\0\
+    ISNEG\0\0\0\0\
+    PUSHSP\0\0\0\
+    POPSP\0\0\0\0\
+    PUSHFBR\0\0\
+    POPFBR\0\0\0\
+    LINK\0\0\0\0\0\
+    ADDSP\0\0\0\0\
+    PUSHIND\0\0\
+    STOREIND\0\
+    PUSHOFF\0\0\
+    STOREOFF\0\
+    JUMP\0\0\0\0\0\
+    JUMPC\0\0\0\0\
+    JUMPIND\0\0\
+    JSR\0\0\0\0\0\0\
+    JSRIND\0\0\0\
+    PUSHIMMPA";
 
 // Their lengths.
-const LENGTHS: [u8; 50] = [
+const LENGTHS: [u8; codes::COUNT] = [
     4,
     7,
     8,
@@ -519,13 +122,13 @@ const LENGTHS: [u8; 50] = [
 pub fn name_byte(code: usize, i: usize) -> u8
     ensures { λ r. ⌜ r ≡ getD (nameOf code) i 0 ⌝ }
 {
-    if 50 <= code {
+    if codes::COUNT <= code {
         return 0;
     }
-    if 9 <= i {
+    if NAME_SIZE <= i {
         return 0;
     }
-    NAMES[code * 9 + i]
+    NAMES[code * NAME_SIZE + i]
 }
 
 fn wide(x: u8) -> usize
@@ -538,7 +141,7 @@ fn wide(x: u8) -> usize
 pub fn name_length(code: usize) -> usize
     ensures { λ r. ⌜ r ≡ length (nameOf code) ⌝ }
 {
-    if 50 <= code {
+    if codes::COUNT <= code {
         return 0;
     }
     wide(LENGTHS[code])
@@ -562,16 +165,16 @@ fn is_name(code: usize, t: &[u8]) -> bool
     true
 }
 
-// The code that the text names, and 50 where it names none.
+// The code that the text names, and past the last where it names none.
 pub fn code_named(t: &[u8]) -> usize
     ensures { λ r. ⌜ r ≡ codeNamed (now (t .entry)) ⌝ }
 {
     let mut code = 0;
-    while code < 50 {
+    while code < codes::COUNT {
         if is_name(code, t) {
             return code;
         }
         code += 1;
     }
-    50
+    codes::COUNT
 }

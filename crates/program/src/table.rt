@@ -1,24 +1,29 @@
 // The places of a table, and the table's part of 10.
 use crate::kinds::is_within;
 use crate::kinds::kind_of;
+use rules::codes;
+use rules::sizes;
 ghost use mathlib.Core.Path.{_≡_};
 ghost use Prim.Native.Nat.{_≤_};
 ghost use lib.ListN.{length, take, drop};
 ghost use Rattle.rules.specs.Lists.{all};
 ghost use Rattle.rules.specs.Table.{program, codeOf, operandOf, soundPlace, isZero, soundTable};
 
+// What a code counts for in a place: its operand stands in the 32 bits after it.
+pub const CODE_WEIGHT: u64 = 0x1_0000_0000;
+
 // The code in a place, with whatever stands where 26 zeros belong.
 pub fn code_of(place: u64) -> usize
     ensures { λ r. ⌜ r ≡ codeOf place ⌝ }
 {
-    (place / 4294967296) as usize
+    (place / CODE_WEIGHT) as usize
 }
 
 // The operand in a place.
 pub fn operand_of(place: u64) -> u32
     ensures { λ r. ⌜ r ≡ operandOf place ⌝ }
 {
-    (place % 4294967296) as u32
+    (place % CODE_WEIGHT) as u32
 }
 
 // Whether the place can be assembled, in a program of `count` instructions.
@@ -26,7 +31,7 @@ fn is_sound_place(count: usize, place: u64) -> bool
     ensures { λ r. ⌜ r ≡ soundPlace count place ⌝ }
 {
     let code = code_of(place);
-    if 50 <= code {
+    if codes::COUNT <= code {
         return false;
     }
     is_within(kind_of(code), count, operand_of(place))
@@ -65,10 +70,10 @@ fn unused_are_zero(table: &[u64], count: usize) -> bool
 pub fn is_sound(table: &[u64], count: usize) -> bool
     ensures { λ r. ⌜ r ≡ soundTable (program (now (table .entry)) count) ⌝ }
 {
-    if 1024 < count {
+    if sizes::MAX_PROGRAM < count {
         return false;
     }
-    if table.len() != 1024 {
+    if table.len() != sizes::MAX_PROGRAM {
         return false;
     }
     if !used_are_sound(table, count) {

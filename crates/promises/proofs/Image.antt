@@ -17,7 +17,7 @@ use lib.ListN.{length, take, drop, replicate, length-append, length-replicate}
 use lib.Pow.{pow-pos, split}
 use lib.Seq.{take-at, drop-at, length-take-le}
 use Rattle.rules.specs.Lists.{all}
-use Rattle.rules.specs.Sizes.{maxProgram, imageSize}
+use Rattle.rules.specs.Sizes.{maxProgram, imageSize, maxOffset}
 use Rattle.rules.specs.Numbers.{lengthOfPacked}
 use Rattle.rules.specs.Fields.{field, value, bitsOf}
 use Rattle.rules.specs.Instructions.{codes, kindOf}
@@ -49,16 +49,16 @@ pub record UnpackedAgain (p : Program) (out table : List ℕ) : Type 0 where
 
 -- ---- an operand of its kind is read back
 
-offset-back : (v : ℕ) → v < 2 ^ 32 → (leb v 999 || leb (2 ^ 32 - 999) v) ≡ true → extended Offset (v % 2 ^ 11) ≡ v
-offset-back v h e = go (leb v 999) refl e
+offset-back : (v : ℕ) → v < 2 ^ 32 → (leb v maxOffset || leb (2 ^ 32 - maxOffset) v) ≡ true → extended Offset (v % 2 ^ 11) ≡ v
+offset-back v h e = go (leb v maxOffset) refl e
   where
-    go : (b : Bool) → leb v 999 ≡ b → (b || leb (2 ^ 32 - 999) v) ≡ true → extended Offset (v % 2 ^ 11) ≡ v
+    go : (b : Bool) → leb v maxOffset ≡ b → (b || leb (2 ^ 32 - maxOffset) v) ≡ true → extended Offset (v % 2 ^ 11) ≡ v
     go true f g =
-        let l : v ≤ 999 = leb-true v 999 f in
+        let l : v ≤ maxOffset = leb-true v maxOffset f in
         let m : v % 2 ^ 11 < 2 ^ 10 = omega arith in
         ap (λ (b : Bool). cond b (v % 2 ^ 11) (v % 2 ^ 11 + (2 ^ 32 - 2 ^ 11))) (lt-ltb (v % 2 ^ 11) (2 ^ 10) m) ∙ omega arith
     go false f g =
-        let l : 2 ^ 32 - 999 ≤ v = leb-true (2 ^ 32 - 999) v g in
+        let l : 2 ^ 32 - maxOffset ≤ v = leb-true (2 ^ 32 - maxOffset) v g in
         let m : 2 ^ 10 ≤ v % 2 ^ 11 = omega arith in
         ap (λ (b : Bool). cond b (v % 2 ^ 11) (v % 2 ^ 11 + (2 ^ 32 - 2 ^ 11))) (le-ltb (v % 2 ^ 11) (2 ^ 10) m) ∙ omega arith
 

@@ -10,6 +10,7 @@ use lib.ListN.{length, getD, take, drop, set, replicate, length-append, length-d
 use lib.Seq.{sets, take-at, getD-at, drop-drop, getD-drop}
 use borrow.Author.Tests.{leb-true, eq-eqb, ne-eqb, lt-ltb, le-leb}
 use Rattle.rules.specs.Lists.{part, splice}
+use Rattle.rules.specs.Sizes.{maxCells}
 use Rattle.rules.specs.Tags.{PA}
 use Rattle.rules.specs.Places.{cellPlace, stepPlace, mark, cellAddress, cellTag, cellBits, cellZeros, stepPc, stepSp, stepFbr, stepCount, stepZeros}
 use Rattle.rules.specs.Table.{Program}
@@ -81,7 +82,7 @@ picked-bits (t ∷ ts) (b ∷ bs) e = ap (λ (l : List ℕ). b ∷ l) (picked-bi
 -- `old` reads from a cell place what `f` picks
 module _ (count : ℕ) (old : ℕ → ℕ) (f : ℕ → ℕ → ℕ)
     (reads : (a t b : ℕ) → a < 2 ^ 10 → t < 2 ^ 2 → b < 2 ^ 32 → old (cellPlace a t b) ≡ f t b) where
-  restored-sets : (a : ℕ) (ts bs l : List ℕ) → a + length bs ≤ 1000 → Each (Keepable count) ts bs
+  restored-sets : (a : ℕ) (ts bs l : List ℕ) → a + length bs ≤ maxCells → Each (Keepable count) ts bs
       → restored old (cellPlaces a ts bs) l ≡ sets l a (picked f ts bs)
   restored-sets a [] bs l h c = refl
   restored-sets a (t ∷ ts) [] l h c = refl
@@ -103,7 +104,7 @@ cell-formed : (n count low q : ℕ) → mark q ≡ 0 → cellZeros q ≡ 0 → l
 cell-formed n count low q h1 h2 h3 h4 h5 =
     simp (eq-eqb _ _ h1, eq-eqb _ _ h2, le-leb _ _ h3, lt-ltb _ _ h4, pa-sound _ _ _ h5)
 
-cells-formed : (n count low a : ℕ) (ts bs : List ℕ) → low ≤ a → a + length bs ≤ n → n ≤ 1000 → Each (Keepable count) ts bs
+cells-formed : (n count low a : ℕ) (ts bs : List ℕ) → low ≤ a → a + length bs ≤ n → n ≤ maxCells → Each (Keepable count) ts bs
     → formedCells n count low (cellPlaces a ts bs) ≡ true
 cells-formed n count low a [] bs hl hn few c = refl
 cells-formed n count low a (t ∷ ts) [] hl hn few c = refl

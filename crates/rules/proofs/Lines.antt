@@ -10,7 +10,7 @@ use lib.ListN.{length, take, getD, replicate, length-append}
 use lib.Seq.{take-suc}
 use borrow.Author.Tests.{leb-true, ltb-true, eq-eqb, ne-eqb}
 use Rattle.rules.specs.Lists.{text, all}
-use Rattle.rules.specs.Sizes.{maxProgram, listingSize}
+use Rattle.rules.specs.Sizes.{maxProgram, listingSize, maxOffset}
 use Rattle.rules.specs.Bytes.{hash, space, minusSign, LF, blank, letter, wordByte, allowed}
 use Rattle.rules.specs.Instructions.{rows, rowOf, codes, names, nameOf, kindOf}
 use Rattle.rules.specs.Table.{Program, codeOf, operandOf, within, soundPlace, soundTable}
@@ -109,14 +109,14 @@ length-spaced : (t : List ℕ) → length (spaced t) ≤ length t + 1
 length-spaced [] = omega arith
 length-spaced (b ∷ t) = omega arith
 
-offset-short : (v : ℕ) → v < 2 ^ 32 → (leb v 999 || leb (2 ^ 32 - 999) v) ≡ true → length (signedText v) ≤ 4
+offset-short : (v : ℕ) → v < 2 ^ 32 → (leb v maxOffset || leb (2 ^ 32 - maxOffset) v) ≡ true → length (signedText v) ≤ 4
 offset-short v l f =
-    by-test (leb v 999)
+    by-test (leb v maxOffset)
     (λ e.
-    let h = leb-true v 999 e in
+    let h = leb-true v maxOffset e in
     rw (signed-pos v (omega arith)) (omega (arith, length-digits 2 9 v (omega arith))))
     (λ e.
-    let h = leb-true (2 ^ 32 - 999) v (rw e at f) in
+    let h = leb-true (2 ^ 32 - maxOffset) v (rw e at f) in
     rw (signed-neg v (omega arith)) (omega (arith, length-digits 2 9 (2 ^ 32 - v) (omega arith))))
 
 length-operand : (k : Kind) (n v : ℕ) → n ≤ maxProgram → v < 2 ^ 32 → within k n v ≡ true → length (spaced (operandText k v)) ≤ widest k

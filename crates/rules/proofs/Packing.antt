@@ -13,7 +13,7 @@ use Rattle.rules.specs.Sizes.{imageSize}
 use Rattle.rules.specs.Fields.{field}
 use Rattle.rules.specs.Instructions.{kindOf}
 use Rattle.rules.specs.Table.{Program, program, codeOf, operandOf, soundTable}
-use Rattle.rules.specs.Image.{widthOf, instructionBits, programBits, imageBits, imageLength, packedTo, Filed, pack}
+use Rattle.rules.specs.Image.{countWidth, codeWidth, widthOf, instructionBits, programBits, imageBits, imageLength, packedTo, Filed, pack}
 use Rattle.rules.specs.declared.Kind.{Kind}
 use Rattle.rules.specs.declared.Kind.the-variants.{Bare, Immediate, Pattern, Offset, Target}
 use Rattle.rules.specs.declared.ImageRefusal.the-variants.{TableBroken, OutputLength}
@@ -33,23 +33,23 @@ width-most Pattern = omega arith
 width-most Offset = omega arith
 width-most Target = omega arith
 
-pub instruction-length : (p : ℕ) → length (instructionBits p) ≡ 6 + widthOf (kindOf (codeOf p))
+pub instruction-length : (p : ℕ) → length (instructionBits p) ≡ codeWidth + widthOf (kindOf (codeOf p))
 unfolding instructionBits
-instruction-length p = length-append (field 6 (codeOf p)) _ ∙ ap₂ (λ (n m : ℕ). n + m) (field-length 6 (codeOf p)) (field-length _ (operandOf p))
+instruction-length p = length-append (field codeWidth (codeOf p)) _ ∙ ap₂ (λ (n m : ℕ). n + m) (field-length codeWidth (codeOf p)) (field-length _ (operandOf p))
 
 -- a code and an operand written side by side
 pub instruction-written : (l x y : List ℕ) (at p code w o : ℕ) → code ≡ codeOf p → w ≡ widthOf (kindOf code) → o ≡ operandOf p → at + 38 ≤ length l
-    → x ≡ splice l at (field 6 code) → y ≡ splice x (at + 6) (field w o) → y ≡ splice l at (instructionBits p)
+    → x ≡ splice l at (field codeWidth code) → y ≡ splice x (at + codeWidth) (field w o) → y ≡ splice l at (instructionBits p)
 unfolding instructionBits
 instruction-written l x y at p code w o ec ew eo h ex ey =
-    let f : List ℕ = field 6 code in
-    let lf : length f ≡ 6 = field-length 6 code in
-    let le : at + 6 ≡ at + length f = omega arith in
+    let f : List ℕ = field codeWidth code in
+    let lf : length f ≡ codeWidth = field-length codeWidth code in
+    let le : at + codeWidth ≡ at + length f = omega arith in
     ey ∙ ap₂ (λ (k : List ℕ) (i : ℕ). splice k i (field w o)) ex le
     ∙ splice-beside l at f (field w o) (omega arith)
     ∙ ap (splice l at)
     (ap (λ (k : ℕ). f ++ field k o) (ew ∙ ap (λ (k : ℕ). widthOf (kindOf k)) ec)
-    ∙ ap₂ (λ (a b : ℕ). field 6 a ++ field (widthOf (kindOf (codeOf p))) b) ec eo)
+    ∙ ap₂ (λ (a b : ℕ). field codeWidth a ++ field (widthOf (kindOf (codeOf p))) b) ec eo)
 
 -- ---- instruction after instruction
 
@@ -68,11 +68,11 @@ program-more t i h =
 
 -- the count, and the first i instructions
 unfoldable pub front : List ℕ → ℕ → ℕ → List ℕ
-front t n i = field 11 n ++ programBits (take i t)
+front t n i = field countWidth n ++ programBits (take i t)
 
-pub front-none : (t : List ℕ) (n : ℕ) → front t n 0 ≡ field 11 n
+pub front-none : (t : List ℕ) (n : ℕ) → front t n 0 ≡ field countWidth n
 unfolding front programBits
-front-none t n = append-nil (field 11 n)
+front-none t n = append-nil (field countWidth n)
 
 pub front-all : (t : List ℕ) (n : ℕ) → front t n n ≡ imageBits (program t n)
 unfolding front imageBits
@@ -81,7 +81,7 @@ front-all t n = refl
 pub front-more : (t : List ℕ) (n i : ℕ) → i < length t → front t n (i + 1) ≡ front t n i ++ instructionBits (getD t i 0)
 unfolding front
 front-more t n i h =
-    ap (λ (l : List ℕ). field 11 n ++ l) (program-more t i h) ∙ sym (append-assoc (field 11 n) (programBits (take i t)) (instructionBits (getD t i 0)))
+    ap (λ (l : List ℕ). field countWidth n ++ l) (program-more t i h) ∙ sym (append-assoc (field countWidth n) (programBits (take i t)) (instructionBits (getD t i 0)))
 
 pub front-written : (z x y t : List ℕ) (n i at : ℕ) → i < length t → at ≡ length (front t n i) → at ≤ length z
     → x ≡ splice z 0 (front t n i) → y ≡ splice x at (instructionBits (getD t i 0)) → y ≡ splice z 0 (front t n (i + 1))
@@ -98,13 +98,13 @@ unfolding programBits instructionBits
 bits-program [] = tt
 bits-program (p ∷ ps) =
     bits-append (instructionBits p) (programBits ps)
-    (bits-append (field 6 (codeOf p)) (field (widthOf (kindOf (codeOf p))) (operandOf p)) (bits-field 6 (codeOf p)) (bits-field _ (operandOf p)))
+    (bits-append (field codeWidth (codeOf p)) (field (widthOf (kindOf (codeOf p))) (operandOf p)) (bits-field codeWidth (codeOf p)) (bits-field _ (operandOf p)))
     (bits-program ps)
 
 pub bits-image : (p : Program) → Bits (imageBits p)
 unfolding imageBits
 bits-image p =
-    bits-append (field 11 (p .count)) (programBits (take (p .count) (p .places))) (bits-field 11 (p .count)) (bits-program (take (p .count) (p .places)))
+    bits-append (field countWidth (p .count)) (programBits (take (p .count) (p .places))) (bits-field countWidth (p .count)) (bits-program (take (p .count) (p .places)))
 
 program-most : (ps : List ℕ) → length (programBits ps) ≤ 38 * length ps
 unfolding programBits
@@ -117,7 +117,7 @@ pub image-fits : (p : Program) → soundTable p ≡ true → imageLength p ≤ i
 unfolding imageLength imageBits
 image-fits p s =
     let ps : List ℕ = take (p .count) (p .places) in
-    omega (arith, table-short p s, used-count p s, program-most ps, length-append (field 11 (p .count)) (programBits ps), field-length 11 (p .count))
+    omega (arith, table-short p s, used-count p s, program-most ps, length-append (field countWidth (p .count)) (programBits ps), field-length countWidth (p .count))
 
 -- ---- the three answers
 module _ (p : Program) (out : List ℕ) where

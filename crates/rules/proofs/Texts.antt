@@ -9,6 +9,7 @@ use native.Mathlib.Omega.{arith}
 use lib.Dec.{eqb, leb, ltb}
 use lib.ListN.{length, getD, length-append}
 use borrow.Author.Tests.{lt-ltb, le-ltb, ltb-true, ltb-false, leb-true, eqb-true}
+use Rattle.rules.specs.Sizes.{maxOffset}
 use Rattle.rules.specs.Bytes.{hash, minusSign, zeroDigit, blank, letter, wordByte, allowed}
 use Rattle.rules.specs.Operands.{digitOf, allDigits, numeral, signs, negated, ranged, numberOf, patternOf}
 use Rattle.rules.specs.Listing.{decimal, signedText, hexByte, hex}
@@ -99,7 +100,7 @@ hex-more (suc k) n h =
     let q : suc k - 1 ≡ k = omega arith in
     rw q
 
-pub hex-low : (n : ℕ) → n < 10 → hexByte n ≡ 48 + n
+pub hex-low : (n : ℕ) → n < 10 → hexByte n ≡ zeroDigit + n
 unfolding hexByte
 hex-low n h = rw (lt-ltb n 10 h)
 
@@ -202,16 +203,16 @@ module _ (b : ℕ) (h : b < 2 ^ 32) where
       rw (signed-neg b l)
       (number-minus (2 ^ 31) (2 ^ 31 - 1) (2 ^ 32 - b) (omega arith) ∙ ranged-least (2 ^ 31) (2 ^ 31 - 1) (2 ^ 32 - b) (omega arith) ∙ ap Value (back l)))
 
-  pub number-offset : (leb b 999 || leb (2 ^ 32 - 999) b) ≡ true → numberOf 999 999 (signedText b) ≡ Value b
+  pub number-offset : (leb b maxOffset || leb (2 ^ 32 - maxOffset) b) ≡ true → numberOf maxOffset maxOffset (signedText b) ≡ Value b
   number-offset k =
-      by-test (leb b 999)
+      by-test (leb b maxOffset)
       (λ e.
-      let l = leb-true b 999 e in
-      rw (signed-pos b (omega arith)) (number-decimal 999 999 b (omega arith) ∙ ranged-most 999 999 b l))
+      let l = leb-true b maxOffset e in
+      rw (signed-pos b (omega arith)) (number-decimal maxOffset maxOffset b (omega arith) ∙ ranged-most maxOffset maxOffset b l))
       (λ e.
-      let l = leb-true (2 ^ 32 - 999) b (rw e at k) in
+      let l = leb-true (2 ^ 32 - maxOffset) b (rw e at k) in
       rw (signed-neg b (omega arith))
-      (number-minus 999 999 (2 ^ 32 - b) (omega arith) ∙ ranged-least 999 999 (2 ^ 32 - b) (omega arith) ∙ ap Value (back (omega arith))))
+      (number-minus maxOffset maxOffset (2 ^ 32 - b) (omega arith) ∙ ranged-least maxOffset maxOffset (2 ^ 32 - b) (omega arith) ∙ ap Value (back (omega arith))))
 
 -- ---- hex texts are read back
 

@@ -5,15 +5,15 @@ use mathlib.Core.Bool.{Bool, true, false, cond, _&&_}
 use mathlib.Core.List.{List, [], _∷_, _++_, append-assoc, append-nil}
 use native.Mathlib.Numerals.{add-one}
 use native.Mathlib.Omega.{arith}
-use borrow.Author.Tests.{lt-ltb, le-ltb, eq-eqb, ne-eqb}
+use borrow.Author.Tests.{lt-ltb, le-ltb, le-leb, lt-leb, eq-eqb, ne-eqb}
 use lib.Dec.{ltb, eqb}
 use lib.ListN.{length, take, drop, set, replicate, length-drop, take-append-drop}
 use lib.Seq.{take-suc-set, drop-set-lt, length-take-le, drop-drop}
 use Rattle.rules.specs.Sizes.{maxProgram}
 use Rattle.rules.specs.Fields.{value, bitsOf}
-use Rattle.rules.specs.Instructions.{kindOf}
+use Rattle.rules.specs.Instructions.{codes, kindOf}
 use Rattle.rules.specs.Table.{placeOf, within}
-use Rattle.rules.specs.Image.{Filed, widthOf, extended, takeOperand, takeOne, Unpacking, places, unfit, prepend, padded, atEnd, followed, unpackFrom, unpacked, filed, unpack}
+use Rattle.rules.specs.Image.{Filed, countWidth, codeWidth, widthOf, extended, takeOperand, takeOne, Unpacking, places, unfit, prepend, padded, atEnd, followed, unpackFrom, unpacked, filed, unpack}
 use Rattle.rules.specs.declared.ImageRefusal.{ImageRefusal}
 use Rattle.rules.specs.declared.ImageRefusal.the-variants.{OutputLength, EndsEarly, CountTooHigh, CodeTooHigh, OperandOutside, BadPadding}
 use Rattle.rules.specs.declared.Packed.the-variants.{Length, Denied}
@@ -45,23 +45,23 @@ module _ (count code : ℕ) (bits : List ℕ) where
   operand-outside h e = conds _ _ _ (le-ltb _ _ h) e
 
   pub operand-taken : widthOf (kindOf code) ≤ length bits → within (kindOf code) count operandAt ≡ true
-      → takeOperand count code bits ≡ Place (placeOf code operandAt) (6 + widthOf (kindOf code))
+      → takeOperand count code bits ≡ Place (placeOf code operandAt) (codeWidth + widthOf (kindOf code))
   unfolding takeOperand
   operand-taken h e = conds _ _ _ (le-ltb _ _ h) e
 
 -- ---- an instruction
 module _ (count : ℕ) (bits : List ℕ) where
-  pub one-short : length bits < 6 → takeOne count bits ≡ Unfit EndsEarly
+  pub one-short : length bits < codeWidth → takeOne count bits ≡ Unfit EndsEarly
   unfolding takeOne
-  one-short h = simp (lt-ltb (length bits) 6 h)
+  one-short h = simp (lt-ltb (length bits) codeWidth h)
 
-  pub one-code : 6 ≤ length bits → 49 < value (take 6 bits) → takeOne count bits ≡ Unfit CodeTooHigh
+  pub one-code : codeWidth ≤ length bits → codes ≤ value (take codeWidth bits) → takeOne count bits ≡ Unfit CodeTooHigh
   unfolding takeOne
-  one-code h g = conds _ _ _ (le-ltb _ _ h) (lt-ltb _ _ g)
+  one-code h g = conds _ _ _ (le-ltb _ _ h) (le-leb codes _ g)
 
-  pub one-operand : 6 ≤ length bits → value (take 6 bits) ≤ 49 → takeOne count bits ≡ takeOperand count (value (take 6 bits)) (drop 6 bits)
+  pub one-operand : codeWidth ≤ length bits → value (take codeWidth bits) < codes → takeOne count bits ≡ takeOperand count (value (take codeWidth bits)) (drop codeWidth bits)
   unfolding takeOne
-  one-operand h g = conds _ _ _ (le-ltb _ _ h) (le-ltb _ _ g)
+  one-operand h g = conds _ _ _ (le-ltb _ _ h) (lt-leb codes _ g)
 
 -- ---- what is left at the end
 
@@ -75,20 +75,20 @@ padded-short bits h = ap (λ (b : Bool). b && eqb (value bits) 0) (lt-ltb _ _ h)
 
 -- ---- the whole image
 module _ (image : List ℕ) where
-  pub unpacked-short : length (bitsOf image) < 11 → unpacked image ≡ unfit EndsEarly
+  pub unpacked-short : length (bitsOf image) < countWidth → unpacked image ≡ unfit EndsEarly
   unfolding unpacked
-  unpacked-short h = simp (lt-ltb (length (bitsOf image)) 11 h)
+  unpacked-short h = simp (lt-ltb (length (bitsOf image)) countWidth h)
 
-  module _ (n : ℕ) (l : 11 ≤ length (bitsOf image)) (e : n ≡ value (take 11 (bitsOf image))) where
+  module _ (n : ℕ) (l : countWidth ≤ length (bitsOf image)) (e : n ≡ value (take countWidth (bitsOf image))) where
     pub unpacked-count : maxProgram < n → unpacked image ≡ unfit CountTooHigh
     unfolding unpacked
     unpacked-count h = conds _ _ _ (le-ltb _ _ l) (ap (ltb maxProgram) (sym e) ∙ lt-ltb maxProgram n h)
 
-    pub unpacked-from : n ≤ maxProgram → unpacked image ≡ unpackFrom n n (drop 11 (bitsOf image))
+    pub unpacked-from : n ≤ maxProgram → unpacked image ≡ unpackFrom n n (drop countWidth (bitsOf image))
     unfolding unpacked
     unpacked-from h =
         conds _ _ _ (le-ltb _ _ l) (ap (ltb maxProgram) (sym e) ∙ le-ltb maxProgram n h)
-        ∙ ap (λ (k : ℕ). unpackFrom k k (drop 11 (bitsOf image))) (sym e)
+        ∙ ap (λ (k : ℕ). unpackFrom k k (drop countWidth (bitsOf image))) (sym e)
 
   -- a refusal, and the zeros that go with it
   pub unfit-filed : (k : ImageRefusal) (x : List ℕ) → unpacked image ≡ unfit k → x ≡ replicate maxProgram 0

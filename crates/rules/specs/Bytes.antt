@@ -1,5 +1,6 @@
 -- Document 01, "Text, table, image": the bytes of a source, by their names. Assumes nothing.
 use Prim.Native.Nat.{ℕ}
+use Prim.Native.Char.{code}
 use mathlib.Core.Bool.{Bool, true, false, _&&_, _||_}
 use mathlib.Core.List.{List, [], _∷_}
 use lib.Dec.{leb, eqb}
@@ -14,26 +15,26 @@ abbrev pub CR : ℕ
 CR = 13
 
 abbrev pub space : ℕ
-space = 32
+space = code " "
 
 abbrev pub hash : ℕ
-hash = 35
+hash = code "#"
 
 abbrev pub minusSign : ℕ
-minusSign = 45
+minusSign = code "-"
 
 abbrev pub slash : ℕ
-slash = 47
+slash = code "/"
 
 -- the digits 0 to 9 follow this one
 abbrev pub zeroDigit : ℕ
-zeroDigit = 48
+zeroDigit = code "0"
 
 abbrev pub colon : ℕ
-colon = 58
+colon = code ":"
 
 abbrev pub underscore : ℕ
-underscore = 95
+underscore = code "_"
 
 -- "Separators: space, tab, CR, LF."
 unfoldable pub blank : ℕ → Bool
@@ -41,11 +42,11 @@ blank b = eqb b space || eqb b tab || eqb b CR || eqb b LF
 
 -- A to Z, a to z
 unfoldable pub letter : ℕ → Bool
-letter b = (leb 65 b && leb b 90) || (leb 97 b && leb b 122)
+letter b = (leb (code "A") b && leb b (code "Z")) || (leb (code "a") b && leb b (code "z"))
 
 -- "letters, digits or `_`"
 unfoldable pub wordByte : ℕ → Bool
-wordByte b = letter b || (leb 48 b && leb b 57) || eqb b underscore
+wordByte b = letter b || (leb (code "0") b && leb b (code "9")) || eqb b underscore
 
 -- "Other bytes allowed: letters, digits, `_ - # :`."
 unfoldable pub allowed : ℕ → Bool

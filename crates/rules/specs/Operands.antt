@@ -1,5 +1,6 @@
 -- Document 01, "Text, table, image": number operands as text. Assumes nothing.
 use Prim.Native.Nat.{ℕ, _+_, _*_, _-_, _^_, _%_}
+use Prim.Native.Char.{code}
 use mathlib.Core.Bool.{Bool, true, false, cond, _&&_}
 use mathlib.Core.List.{List, [], _∷_}
 use lib.Dec.{eqb, leb, ltb}
@@ -11,7 +12,9 @@ use Rattle.rules.specs.declared.Numeral.the-variants.{Value, WrongForm, 
 -- what a byte counts for as a digit, "of either case": 0 to 9, A to F and a to f; 16 where it is none
 unfoldable pub digitOf : ℕ → ℕ
 digitOf b =
-    cond (leb 48 b && leb b 57) (b - 48) (cond (leb 65 b && leb b 70) (b - 55) (cond (leb 97 b && leb b 102) (b - 87) 16))
+    cond (leb (code "0") b && leb b (code "9")) (b - code "0")
+    (cond (leb (code "A") b && leb b (code "F")) (b - (code "A" - 10))
+    (cond (leb (code "a") b && leb b (code "f")) (b - (code "a" - 10)) 16))
 
 -- each byte is a digit in the base
 unfoldable pub allDigits : ℕ → List ℕ → Bool

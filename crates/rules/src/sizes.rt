@@ -1,4 +1,5 @@
 // The sizes that document 01 names, each as the definition of that name in specs/Sizes.antt.
+use crate::words;
 
 // "Source 0 to 65,536 bytes; program 0 to 1,024 instructions; 256 labels; label 1 to 32 bytes."
 pub const MAX_SOURCE: usize = 65_536;
@@ -25,3 +26,6 @@ pub const IMAGE_SIZE: usize = 4_866;
 
 // "ADDSP and offsets −999..999"
 pub const MAX_OFFSET: u32 = 999;
+
+// The word of -999: those from it on are in range too.
+pub const MIN_OFFSET: u32 = words::MINUS_ONE - (MAX_OFFSET - 1);

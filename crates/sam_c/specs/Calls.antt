@@ -60,7 +60,11 @@ notItsLength = textNumber WrongLength
 abbrev pub broken : ℕ
 broken = machineNumber Broken
 
--- the seven registers as a list, and a list of seven as registers
+-- how many registers there are
+abbrev pub registerCount : ℕ
+registerCount = 7
+
+-- the registers as a list, and a list of so many as registers
 abbrev pub listOf : Registers → List ℕ
 listOf r = r .n ∷ r .h ∷ r .pc ∷ r .sp ∷ r .fbr ∷ r .halt ∷ r .used ∷ []
 
@@ -107,7 +111,7 @@ abbrev pub resetMoved : Started → Moved
 resetMoved s = moved (numberOfReset (s .answer .begun)) (listOf (s .answer .registers)) (s .memory)
 
 abbrev pub resetCall : Program → List ℕ → Memory → Moved
-resetCall p registers m = ofLength 7 registers (resetMoved (reset p m)) (moved broken registers m)
+resetCall p registers m = ofLength registerCount registers (resetMoved (reset p m)) (moved broken registers m)
 
 -- "A refused step, step-back .. changes nothing": r are the registers before
 abbrev pub stepMoved : Registers → Stepped → Moved
@@ -115,11 +119,11 @@ stepMoved r s = moved (numberOfStep (s .answer)) (listOf (registersAfter r (s .a
 
 abbrev pub stepCall : Program → List ℕ → Memory → Moved
 stepCall p registers m =
-    ofLength 7 registers (stepMoved (registersOf registers) (step p (registersOf registers) m)) (moved broken registers m)
+    ofLength registerCount registers (stepMoved (registersOf registers) (step p (registersOf registers) m)) (moved broken registers m)
 
 abbrev pub backCall : Program → List ℕ → Memory → Moved
 backCall p registers m =
-    ofLength 7 registers (stepMoved (registersOf registers) (back p (registersOf registers) m)) (moved broken registers m)
+    ofLength registerCount registers (stepMoved (registersOf registers) (back p (registersOf registers) m)) (moved broken registers m)
 
 -- "It also tells the number of steps it made."
 abbrev pub runWalked : Ran → Walked
@@ -129,5 +133,5 @@ runWalked r =
 abbrev pub runCall : Program → ℕ → List ℕ → Memory → List ℕ → Walked
 runCall p limit registers m told =
     ofLength 1 told
-    (ofLength 7 registers (runWalked (run p limit (registersOf registers) m)) (walked (0 ∷ []) broken registers m))
+    (ofLength registerCount registers (runWalked (run p limit (registersOf registers) m)) (walked (0 ∷ []) broken registers m))
     (walked told notItsLength registers m)

@@ -10,7 +10,7 @@ pub extern "C" fn sam_assemble(source: &[u8], table: &mut [u64], told: &mut [u64
     ensures { λ r. ⌜ filled r (now (told .exit)) (now (table .exit)) ≡ assembleCall (now (source .entry)) (now (table .entry)) (now (told .entry)) ⌝ }
 {
     if told.len() != 2 {
-        return 31;
+        return told::NOT_ITS_LENGTH;
     }
     let answer = assembler::assemble(source, table);
     let length = numbers::assembled_length(answer);

@@ -11,7 +11,7 @@ pub extern "C" fn sam_list(table: &[u64], length: u64, text: &mut [u8], told: &m
     ensures { λ r. ⌜ filled r (now (told .exit)) (now (text .exit)) ≡ listCall (program (now (table .entry)) length) (now (text .entry)) (now (told .entry)) ⌝ }
 {
     if told.len() != 1 {
-        return 31;
+        return told::NOT_ITS_LENGTH;
     }
     let answer = lister::list(table, length as usize, text);
     told::tell(told, numbers::listed_length(answer));

@@ -11,7 +11,7 @@ pub extern "C" fn sam_pack(table: &[u64], length: u64, image: &mut [u8], told: &
     ensures { λ r. ⌜ filled r (now (told .exit)) (now (image .exit)) ≡ packCall (program (now (table .entry)) length) (now (image .entry)) (now (told .entry)) ⌝ }
 {
     if told.len() != 1 {
-        return 31;
+        return told::NOT_ITS_LENGTH;
     }
     let answer = image::pack(table, length as usize, image);
     told::tell(told, numbers::packed_length(answer));

@@ -4,11 +4,17 @@ use rules::Step;
 ghost use mathlib.Core.Path.{_≡_};
 ghost use lib.ListN.{length};
 ghost use Rattle.rules.specs.Numbers.{registersAfter};
-ghost use Rattle.sam_c.specs.Calls.{listOf, registersOf};
+ghost use Rattle.sam_c.specs.Calls.{registerCount, listOf, registersOf};
+
+// How many there are.
+pub(crate) const COUNT: usize = 7;
+
+// "broken state or table", where a call is lent registers of another length.
+pub(crate) const BROKEN: u32 = 10;
 
 // Reads them.
 pub(crate) fn read(registers: &[u64]) -> Registers
-    requires { ⌜ length (now registers) ≡ 7 ⌝ }
+    requires { ⌜ length (now registers) ≡ registerCount ⌝ }
     ensures { λ r. ⌜ r ≡ registersOf (now (registers .entry)) ⌝ }
 {
     Registers {
@@ -24,7 +30,7 @@ pub(crate) fn read(registers: &[u64]) -> Registers
 
 // Writes them.
 pub(crate) fn write(registers: &mut [u64], r: Registers)
-    requires { ⌜ length (now registers) ≡ 7 ⌝ }
+    requires { ⌜ length (now registers) ≡ registerCount ⌝ }
     ensures { λ _. ⌜ now (registers .exit) ≡ listOf r ⌝ }
 {
     registers[0] = r.n as u64;

@@ -18,8 +18,8 @@ pub extern "C" fn sam_reset(
 ) -> u32
     ensures { λ a. ⌜ moved a (now (registers .exit)) (memory (now (bits .exit)) (now (tags .exit)) (now (history .exit))) ≡ resetCall (program (now (table .entry)) length) (now (registers .entry)) (memory (now (bits .entry)) (now (tags .entry)) (now (history .entry))) ⌝ }
 {
-    if registers.len() != 7 {
-        return 10;
+    if registers.len() != registers::COUNT {
+        return registers::BROKEN;
     }
     let answer = state::reset(table, length as usize, bits, tags, history);
     let r = answer.registers;

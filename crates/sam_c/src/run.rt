@@ -22,11 +22,11 @@ pub extern "C" fn sam_run(
     ensures { λ a. ⌜ walked (now (told .exit)) a (now (registers .exit)) (memory (now (bits .exit)) (now (tags .exit)) (now (history .exit))) ≡ runCall (program (now (table .entry)) length) limit (now (registers .entry)) (memory (now (bits .entry)) (now (tags .entry)) (now (history .entry))) (now (told .entry)) ⌝ }
 {
     if told.len() != 1 {
-        return 31;
+        return told::NOT_ITS_LENGTH;
     }
-    if registers.len() != 7 {
+    if registers.len() != registers::COUNT {
         told::tell(told, 0);
-        return 10;
+        return registers::BROKEN;
     }
     let r = registers::read(registers);
     let answer = machine::run::run(

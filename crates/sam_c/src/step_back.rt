@@ -18,8 +18,8 @@ pub extern "C" fn sam_step_back(
 ) -> u32
     ensures { λ a. ⌜ moved a (now (registers .exit)) (memory (now (bits .exit)) (now (tags .exit)) (now (history .exit))) ≡ backCall (program (now (table .entry)) length) (now (registers .entry)) (memory (now (bits .entry)) (now (tags .entry)) (now (history .entry))) ⌝ }
 {
-    if registers.len() != 7 {
-        return 10;
+    if registers.len() != registers::COUNT {
+        return registers::BROKEN;
     }
     let r = registers::read(registers);
     let answer = back::step_back(table, length as usize, r, bits, tags, history);

@@ -3,6 +3,9 @@ ghost use mathlib.Core.Path.{_≡_};
 ghost use mathlib.Core.List.{[], _∷_};
 ghost use lib.ListN.{length};
 
+// "lent output not of its exact length", which what a call tells is lent too.
+pub(crate) const NOT_ITS_LENGTH: u32 = 31;
+
 // Tells one value.
 pub(crate) fn tell(told: &mut [u64], value: usize)
     requires { ⌜ length (now told) ≡ 1 ⌝ }

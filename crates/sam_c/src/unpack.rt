@@ -10,7 +10,7 @@ pub extern "C" fn sam_unpack(image: &[u8], table: &mut [u64], told: &mut [u64]) 
     ensures { λ r. ⌜ filled r (now (told .exit)) (now (table .exit)) ≡ unpackCall (now (image .entry)) (now (table .entry)) (now (told .entry)) ⌝ }
 {
     if told.len() != 1 {
-        return 31;
+        return told::NOT_ITS_LENGTH;
     }
     let answer = image::unpack(image, table);
     told::tell(told, numbers::packed_length(answer));

@@ -3,6 +3,8 @@ use rules::Begun;
 use rules::MachineRefusal;
 use rules::Registers;
 use rules::Reset;
+use rules::sizes;
+use rules::tags;
 ghost use mathlib.Core.Path.{_≡_};
 ghost use lib.ListN.{length, replicate};
 ghost use Rattle.rules.specs.Lists.{every};
@@ -19,10 +21,10 @@ fn has_kept_sizes(r: Registers, bits: usize, tags: usize, history: usize) -> boo
     if r.n < 1 {
         return false;
     }
-    if 1000 < r.n {
+    if sizes::MAX_CELLS < r.n {
         return false;
     }
-    if 8192 < r.h {
+    if sizes::MAX_HISTORY < r.h {
         return false;
     }
     if bits != r.n {
@@ -53,15 +55,15 @@ fn has_registers_within(r: Registers, count: usize) -> bool
     r.used <= r.h
 }
 
-// Whether a cell may stand in a sound state: its tag is at most 3, and a PA is at most the program's length.
+// Whether a cell may stand in a sound state: its tag is at most PA, the last, and a PA is at most the program's length.
 fn is_sound_cell(count: usize, tag: u8, bits: u32) -> bool
     ensures { λ a. ⌜ a ≡ soundCell count tag bits ⌝ }
 {
     let address = bits as usize;
-    if 3 < tag {
+    if tags::PA < tag {
         return false;
     }
-    if tag != 3 {
+    if tag != tags::PA {
         return true;
     }
     address <= count
@@ -116,10 +118,10 @@ fn has_start_sizes(bits: usize, tags: usize, history: usize) -> bool
     if bits < 1 {
         return false;
     }
-    if 1000 < bits {
+    if sizes::MAX_CELLS < bits {
         return false;
     }
-    if 8192 < history {
+    if sizes::MAX_HISTORY < history {
         return false;
     }
     tags == bits
@@ -145,7 +147,7 @@ fn clear_cells(bits: &mut [u32], tags: &mut [u8])
     let mut cell = 0;
     while cell < bits.len() {
         bits[cell] = 0;
-        tags[cell] = 0;
+        tags[cell] = tags::INT;
         cell += 1;
     }
 }

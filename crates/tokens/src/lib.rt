@@ -19,16 +19,16 @@ pub enum Next {
 fn is_blank(b: u8) -> bool
     ensures { λ r. ⌜ r ≡ blank b ⌝ }
 {
-    if b == 32 {
+    if b == b' ' {
         return true;
     }
-    if b == 9 {
+    if b == b'\t' {
         return true;
     }
-    if b == 13 {
+    if b == b'\r' {
         return true;
     }
-    b == 10
+    b == b'\n'
 }
 
 // Whether `//` stands at the place i.
@@ -36,13 +36,13 @@ fn opens_at(src: &[u8], i: usize) -> bool
     requires { ⌜ i < length (now src) ⌝ }
     ensures { λ r. ⌜ r ≡ opens (drop i (now (src .entry))) ⌝ }
 {
-    if src[i] != 47 {
+    if src[i] != b'/' {
         return false;
     }
     if src.len() - i < 2 {
         return false;
     }
-    src[i + 1] == 47
+    src[i + 1] == b'/'
 }
 
 // Whether no byte of a token stands at the place i.
@@ -66,7 +66,7 @@ fn comment_end(src: &[u8], at: usize) -> usize
 {
     let mut i = at;
     while i < src.len() {
-        if src[i] == 10 {
+        if src[i] == b'\n' {
             return i + 1;
         }
         i += 1;
@@ -98,7 +98,7 @@ fn token_end(src: &[u8], at: usize) -> usize
     ensures { λ r. ⌜ Ended (now (src .entry)) at r ⌝ }
 {
     let mut i = at;
-    while src[i] != 58 {
+    while src[i] != b':' {
         i += 1;
         if stops_at(src, i) {
             return i;

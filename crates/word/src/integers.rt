@@ -1,15 +1,19 @@
 // Integers of 32 bits: the two readings of a word, and ADD, SUB, TIMES, DIV and MOD.
+use rules::words;
 ghost use mathlib.Core.Path.{_≡_};
 ghost use Rattle.rules.specs.Words.{signed, word, plus, minus, times, quotient, remainder};
+
+// A word has two halves of 16 bits: each is below this.
+const HALF: u32 = 0x1_0000;
 
 // The number that a word stands for, by two's complement.
 pub fn signed(b: u32) -> i32
     ensures { λ r. ⌜ r ≡ signed b ⌝ }
 {
-    if b < 2147483648 {
+    if b < words::LOWEST {
         b as i32
     } else {
-        -1 - ((4294967295 - b) as i32)
+        -1 - ((words::MINUS_ONE - b) as i32)
     }
 }
 
@@ -20,7 +24,7 @@ pub(crate) fn word(z: i32) -> u32
     if z >= 0 {
         z as u32
     } else {
-        4294967295 - ((-1 - z) as u32)
+        words::MINUS_ONE - ((-1 - z) as u32)
     }
 }
 
@@ -42,12 +46,12 @@ pub fn minus(b: u32, t: u32) -> u32
 pub fn times(b: u32, t: u32) -> u32
     ensures { λ r. ⌜ r ≡ times b t ⌝ }
 {
-    let bh = b / 65536;
-    let bl = b % 65536;
-    let th = t / 65536;
-    let tl = t % 65536;
+    let bh = b / HALF;
+    let bl = b % HALF;
+    let th = t / HALF;
+    let tl = t % HALF;
     let middle = std::num::wrapping_add_u32(bh * tl, bl * th);
-    std::num::wrapping_add_u32(middle % 65536 * 65536, bl * tl)
+    std::num::wrapping_add_u32(middle % HALF * HALF, bl * tl)
 }
 
 // DIV: the quotient toward zero. -2^31 by -1 is 2^31, whose bits are those of -2^31. By zero, which a step refuses, it is 0.
@@ -57,9 +61,9 @@ pub fn quotient(b: u32, t: u32) -> u32
     if t == 0 {
         return 0;
     }
-    if t == 4294967295 {
-        if b == 2147483648 {
-            return 2147483648;
+    if t == words::MINUS_ONE {
+        if b == words::LOWEST {
+            return words::LOWEST;
         }
     }
     let x = signed(b);
@@ -74,8 +78,8 @@ pub fn remainder(b: u32, t: u32) -> u32
     if t == 0 {
         return b;
     }
-    if t == 4294967295 {
-        if b == 2147483648 {
+    if t == words::MINUS_ONE {
+        if b == words::LOWEST {
             return 0;
         }
     }

@@ -3,6 +3,7 @@ ghost use mathlib.Core.Path.{_≡_};
 ghost use lib.Dec.{eqb};
 ghost use Rattle.rules.specs.Words.{bit, holds, less, sense, ordered};
 use crate::integers::signed;
+use rules::words;
 
 // The result of a test, as a word: 0 or 1.
 pub fn bit(test: bool) -> u32
@@ -49,7 +50,7 @@ pub fn sense(less: bool, greater: bool) -> u32
         return 1;
     }
     if greater {
-        return 4294967295;
+        return words::MINUS_ONE;
     }
     0
 }

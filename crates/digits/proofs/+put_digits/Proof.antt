@@ -28,14 +28,6 @@ abbrev put-digits-below : ℕ → In 1 put-digits-kinds.ps
 put-digits-below t =
     and 1 put-digits-kinds.ps (falls 1 put-digits-kinds.ps _<_ μ-put-digits t) put-digits.Pre
 
-put-digits-add-put-byte : (t : ℕ) → put-digits-lts.Need-add-put-byte (
-  put-byte-reads.Asked,
-  put-byte-reads.Learnt,
-  put-digits-below t,
-  put-digits.Post,
-) (put-digits-at t) put-digits.Post
-put-digits-add-put-byte t c = search needs
-
 put-digits-cast-put-byte : (t : ℕ) → put-digits-lts.Need-cast-put-byte (
   put-byte-reads.Asked,
   put-byte-reads.Learnt,
@@ -43,6 +35,14 @@ put-digits-cast-put-byte : (t : ℕ) → put-digits-lts.Need-cast-put-byte (
   put-digits.Post,
 ) (put-digits-at t) put-digits.Post
 put-digits-cast-put-byte t c = search needs
+
+put-digits-add-put-byte : (t : ℕ) → put-digits-lts.Need-add-put-byte (
+  put-byte-reads.Asked,
+  put-byte-reads.Learnt,
+  put-digits-below t,
+  put-digits.Post,
+) (put-digits-at t) put-digits.Post
+put-digits-add-put-byte t c = search needs
 
 put-digits-put-byte-requires : (t : ℕ) → put-digits-lts.Need-put-byte-requires (
   put-byte-reads.Asked,
@@ -79,14 +79,6 @@ put-digits-returns t c =
     let e = texts.decimal-zero (a .k) (a .n) (c .before .before .before .before .if1 .taken) in
     (rw e, rw e (c .before .before .put-byte .ensures))
 
-put-digits-add-put-byte-2 : (t : ℕ) → put-digits-lts.Need-add-put-byte-2 (
-  put-byte-reads.Asked,
-  put-byte-reads.Learnt,
-  put-digits-below t,
-  put-digits.Post,
-) (put-digits-at t) put-digits.Post
-put-digits-add-put-byte-2 t c = search needs
-
 put-digits-cast-put-byte-2 : (t : ℕ) → put-digits-lts.Need-cast-put-byte-2 (
   put-byte-reads.Asked,
   put-byte-reads.Learnt,
@@ -94,6 +86,14 @@ put-digits-cast-put-byte-2 : (t : ℕ) → put-digits-lts.Need-cast-put-byte-2 (
   put-digits.Post,
 ) (put-digits-at t) put-digits.Post
 put-digits-cast-put-byte-2 t c = search needs
+
+put-digits-add-put-byte-2 : (t : ℕ) → put-digits-lts.Need-add-put-byte-2 (
+  put-byte-reads.Asked,
+  put-byte-reads.Learnt,
+  put-digits-below t,
+  put-digits.Post,
+) (put-digits-at t) put-digits.Post
+put-digits-add-put-byte-2 t c = search needs
 
 put-digits-put-byte-requires-2 : (t : ℕ) → put-digits-lts.Need-put-byte-requires-2 (
   put-byte-reads.Asked,
@@ -146,14 +146,6 @@ put-digits-put-digits-requires : (t : ℕ) → put-digits-lts.Need-put-digits-re
 ) (put-digits-at t) put-digits.Post
 put-digits-put-digits-requires t c κs = search needs
 
-put-digits-add-put-byte-3 : (t : ℕ) → put-digits-lts.Need-add-put-byte-3 (
-  put-byte-reads.Asked,
-  put-byte-reads.Learnt,
-  put-digits-below t,
-  put-digits.Post,
-) (put-digits-at t) put-digits.Post
-put-digits-add-put-byte-3 t c = search needs
-
 put-digits-cast-put-byte-3 : (t : ℕ) → put-digits-lts.Need-cast-put-byte-3 (
   put-byte-reads.Asked,
   put-byte-reads.Learnt,
@@ -161,6 +153,14 @@ put-digits-cast-put-byte-3 : (t : ℕ) → put-digits-lts.Need-cast-put-byte-3 (
   put-digits.Post,
 ) (put-digits-at t) put-digits.Post
 put-digits-cast-put-byte-3 t c = search needs
+
+put-digits-add-put-byte-3 : (t : ℕ) → put-digits-lts.Need-add-put-byte-3 (
+  put-byte-reads.Asked,
+  put-byte-reads.Learnt,
+  put-digits-below t,
+  put-digits.Post,
+) (put-digits-at t) put-digits.Post
+put-digits-add-put-byte-3 t c = search needs
 
 put-digits-put-byte-requires-3 : (t : ℕ) → put-digits-lts.Need-put-byte-requires-3 (
   put-byte-reads.Asked,
@@ -213,22 +213,22 @@ pub +put-digits-spec : {M : Type 1} → statement M
 )
     (put-digits-at t)
     put-digits.Post
-    (put-digits-add-put-byte t)
     (put-digits-cast-put-byte t)
+    (put-digits-add-put-byte t)
     (put-digits-put-byte-requires t)
     (put-digits-add-result t)
     (put-digits-same-length t)
     (put-digits-returns t)
-    (put-digits-add-put-byte-2 t)
     (put-digits-cast-put-byte-2 t)
+    (put-digits-add-put-byte-2 t)
     (put-digits-put-byte-requires-2 t)
     (put-digits-add-result-2 t)
     (put-digits-same-length-2 t)
     (put-digits-returns-2 t)
     (put-digits-sub-put-digits t)
     (put-digits-put-digits-requires t)
-    (put-digits-add-put-byte-3 t)
     (put-digits-cast-put-byte-3 t)
+    (put-digits-add-put-byte-3 t)
     (put-digits-put-byte-requires-3 t)
     (put-digits-add-result-3 t)
     (put-digits-same-length-3 t)

@@ -8,25 +8,20 @@ use Rattle.places.proofs.cell_place.Tie as tie
 mul-result : tie.Need-mul-result
 mul-result c = search needs
 
-cast-result : tie.Need-cast-result
-cast-result c = search needs
+mul-result-2 : tie.Need-mul-result-2
+mul-result-2 c = search needs
 
 add-result : tie.Need-add-result
 add-result c = search needs
 
-mul-result-2 : tie.Need-mul-result-2
-mul-result-2 c = search needs
+mul-result-3 : tie.Need-mul-result-3
+mul-result-3 c = search needs
 
 add-result-2 : tie.Need-add-result-2
 add-result-2 c = search needs
-
-mul-result-3 : tie.Need-mul-result-3
-mul-result-3 c = search needs
 
 returns : tie.Need-returns
 returns c = omega (arith, cellPlace-low (c .args .address) (c .args .tag) (c .args .bits))
 
 pub cell-place-spec : {M : Type 1} → statement M
-cell-place-spec =
-    tie.close
-    (tie.spec mul-result cast-result add-result mul-result-2 add-result-2 mul-result-3 returns)
+cell-place-spec = tie.close (tie.spec mul-result mul-result-2 add-result mul-result-3 add-result-2 returns)

@@ -5,43 +5,32 @@ use Rattle.rules.proofs.Places.{stepPlace-low}
 use Rattle.places.proofs.step_place.Statement.{statement}
 use Rattle.places.proofs.step_place.Tie as tie
 
+mul-marked : tie.Need-mul-marked
+mul-marked c = search needs
+
 add-marked : tie.Need-add-marked
 add-marked c = search needs
 
 mul-stack : tie.Need-mul-stack
 mul-stack c = search needs
 
+mul-stack-2 : tie.Need-mul-stack-2
+mul-stack-2 c = search needs
+
 add-stack : tie.Need-add-stack
 add-stack c = search needs
-
-mul-result : tie.Need-mul-result
-mul-result c = search needs
 
 add-result : tie.Need-add-result
 add-result c = search needs
 
-mul-result-2 : tie.Need-mul-result-2
-mul-result-2 c = search needs
+mul-result : tie.Need-mul-result
+mul-result c = search needs
 
 add-result-2 : tie.Need-add-result-2
 add-result-2 c = search needs
-
-mul-result-3 : tie.Need-mul-result-3
-mul-result-3 c = search needs
 
 returns : tie.Need-returns
 returns c = omega (arith, stepPlace-low (c .args .pc) (c .args .sp) (c .args .fbr) (c .args .count))
 
 pub step-place-spec : {M : Type 1} → statement M
-step-place-spec =
-    tie.close
-    (tie.spec
-    add-marked
-    mul-stack
-    add-stack
-    mul-result
-    add-result
-    mul-result-2
-    add-result-2
-    mul-result-3
-    returns)
+step-place-spec = tie.close (tie.spec mul-marked add-marked mul-stack mul-stack-2 add-stack add-result mul-result add-result-2 returns)

@@ -16,14 +16,17 @@ mul-a c = search needs
 mul-k : tie.Need-mul-k
 mul-k c = search needs
 
-add-t7 : tie.Need-add-t7
-add-t7 c = search needs
+mul-t7 : tie.Need-mul-t7
+mul-t7 c = search needs
 
 add-t8 : tie.Need-add-t8
 add-t8 c = search needs
 
-add-t10 : tie.Need-add-t10
-add-t10 c = search needs
+add-t9 : tie.Need-add-t9
+add-t9 c = search needs
+
+add-t11 : tie.Need-add-t11
+add-t11 c = search needs
 
 returns : tie.Need-returns
 returns c = λ src h.
@@ -37,4 +40,4 @@ returns-2 c = λ src h.
     st.target-long (a .code) (a .at) (piece src (a .at) (a .len)) (rw (keep.length-piece src (a .at) (a .len) h) (omega arith))
 
 pub name-word-spec : {M : Type 1} → statement M
-name-word-spec = tie.close (tie.spec mul-a mul-k add-t7 add-t8 add-t10 returns returns-2)
+name-word-spec = tie.close (tie.spec mul-a mul-k mul-t7 add-t8 add-t9 add-t11 returns returns-2)

@@ -16,17 +16,20 @@ mul-k c = search needs
 enum-known-v : tie.Need-enum-known-v
 enum-known-v c = search needs
 
-add-t9 : tie.Need-add-t9
-add-t9 c = search needs
+mul-t9 : tie.Need-mul-t9
+mul-t9 c = search needs
 
 add-t10 : tie.Need-add-t10
 add-t10 c = search needs
 
-cast-t11 : tie.Need-cast-t11
-cast-t11 c = search needs
+add-t11 : tie.Need-add-t11
+add-t11 c = search needs
 
-add-t12 : tie.Need-add-t12
-add-t12 c = search needs
+cast-t12 : tie.Need-cast-t12
+cast-t12 c = search needs
+
+add-t13 : tie.Need-add-t13
+add-t13 c = search needs
 
 enum-told : tie.Need-enum-told
 enum-told c = search needs
@@ -34,11 +37,14 @@ enum-told c = search needs
 enum-told-2 : tie.Need-enum-told-2
 enum-told-2 c = search needs
 
-add-t14 : tie.Need-add-t14
-add-t14 c = search needs
+mul-t15 : tie.Need-mul-t15
+mul-t15 c = search needs
 
-add-t15 : tie.Need-add-t15
-add-t15 c = search needs
+add-t16 : tie.Need-add-t16
+add-t16 c = search needs
+
+add-t17 : tie.Need-add-t17
+add-t17 c = search needs
 
 returns : tie.Need-returns
 returns c = λ src.
@@ -63,14 +69,16 @@ target-word-spec =
     mul-a
     mul-k
     enum-known-v
-    add-t9
+    mul-t9
     add-t10
-    cast-t11
-    add-t12
+    add-t11
+    cast-t12
+    add-t13
     enum-told
     enum-told-2
-    add-t14
-    add-t15
+    mul-t15
+    add-t16
+    add-t17
     returns
     returns-2
     returns-3)
