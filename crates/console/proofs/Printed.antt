@@ -15,7 +15,7 @@ use Rattle.rules.specs.declared.Assembled.{Assembled}
 use Rattle.rules.specs.declared.Assembled.the-variants.{Made, Fault}
 use Rattle.rules.specs.declared.TextRefusal.{TextRefusal}
 use Rattle.digits.specs.Put.{Put}
-use Rattle.lister.proofs.Writing.{put-zeros}
+use Rattle.digits.proofs.Laws.{put-zeros}
 use Rattle.console.proofs.Reported.{report-short, refused-short}
 use Rattle.console.proofs.ConsoleRun.{console-sp}
 

@@ -16,7 +16,7 @@ use Rattle.rules.proofs.Tests.{by-test}
 use Rattle.rules.proofs.Texts.{length-decimal, length-signed, length-hex}
 use Rattle.digits.specs.Put.{Put}
 use Rattle.digits.proofs.Laws.{put-append}
-use Rattle.lister.proofs.Writing.{put-next, put-zeros}
+use Rattle.digits.proofs.Laws.{put-next, put-zeros}
 
 -- ---- a text after a text: from the start on, and from a place on
 

@@ -13,7 +13,7 @@ use Rattle.rules.specs.Listing.{Written, listing}
 use Rattle.rules.specs.Table.{program, soundTable}
 use Rattle.rules.specs.Sizes.{listingSize}
 use Rattle.digits.specs.Put.{Put}
-use Rattle.lister.proofs.Writing.{put-zeros}
+use Rattle.digits.proofs.Laws.{put-zeros}
 use Rattle.lister.proofs.list.Statement.{statement}
 use Rattle.lister.proofs.list.Tie as tie
 

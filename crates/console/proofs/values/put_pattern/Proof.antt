@@ -6,7 +6,7 @@ use native.Mathlib.Omega.{arith}
 use Rattle.rules.specs.Bytes.{hash, LF}
 use Rattle.rules.specs.Listing.{hex}
 use Rattle.rules.proofs.Texts.{length-hex}
-use Rattle.lister.proofs.Writing.{put-front, put-last}
+use Rattle.digits.proofs.Laws.{put-front, put-last}
 use borrow.Author.Needs.{needs}
 use Rattle.console.proofs.values.put_pattern.Statement.{statement}
 use Rattle.console.proofs.values.put_pattern.Tie as tie

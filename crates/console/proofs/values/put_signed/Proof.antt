@@ -5,7 +5,7 @@ use native.Mathlib.Omega.{arith}
 use Rattle.rules.specs.Bytes.{LF}
 use Rattle.rules.specs.Listing.{signedText}
 use Rattle.rules.proofs.Texts.{length-signed}
-use Rattle.lister.proofs.Writing.{put-last}
+use Rattle.digits.proofs.Laws.{put-last}
 use borrow.Author.Needs.{needs}
 use Rattle.console.proofs.values.put_signed.Statement.{statement}
 use Rattle.console.proofs.values.put_signed.Tie as tie

@@ -4,7 +4,7 @@ use mathlib.Core.Path.{refl}
 use native.Mathlib.Omega.{arith}
 use Rattle.rules.specs.Listing.{decimal}
 use Rattle.rules.proofs.Texts.{length-decimal}
-use Rattle.lister.proofs.Writing.{put-last}
+use Rattle.digits.proofs.Laws.{put-last}
 use borrow.Author.Needs.{needs}
 use Rattle.console.proofs.words.put_number.Statement.{statement}
 use Rattle.console.proofs.words.put_number.Tie as tie

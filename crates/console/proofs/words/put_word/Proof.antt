@@ -1,7 +1,7 @@
 -- `put_word` meets its contract: a text, and a byte after it. Assumes nothing.
 use Prim.Native.Nat.{_+_}
 use mathlib.Core.Path.{refl}
-use Rattle.lister.proofs.Writing.{put-last}
+use Rattle.digits.proofs.Laws.{put-last}
 use borrow.Author.Needs.{needs}
 use Rattle.console.proofs.words.put_word.Statement.{statement}
 use Rattle.console.proofs.words.put_word.Tie as tie

@@ -6,7 +6,7 @@ use borrow.Author.Needs.{needs}
 use Rattle.rules.proofs.Texts as texts
 use Rattle.rules.specs.Listing.{signedText}
 use Rattle.rules.specs.Bytes.{space}
-use Rattle.lister.proofs.Writing as law
+use Rattle.digits.proofs.Laws.{put-front}
 use Rattle.lister.proofs.line.put_number.Statement.{statement}
 use Rattle.lister.proofs.line.put_number.Tie as tie
 
@@ -29,7 +29,7 @@ same-length c = search needs
 returns : tie.Need-returns
 returns c =
     let a = c .before .before .before .before .before .before .before .before .before .args in
-    law.put-front (a .out .now) (c .before .before .before .before .before .before .put-byte .last .0) (c .before .before .put-signed .last .0) (a .at) (a .at + 0) (a .at + 1) space (c .before .before .put-signed .result) (signedText (a .v)) (omega arith) refl
+    put-front (a .out .now) (c .before .before .before .before .before .before .put-byte .last .0) (c .before .before .put-signed .last .0) (a .at) (a .at + 0) (a .at + 1) space (c .before .before .put-signed .result) (signedText (a .v)) (omega arith) refl
     (c .before .before .before .before .before .before .put-byte .ensures)
     (c .before .before .put-signed .ensures)
 

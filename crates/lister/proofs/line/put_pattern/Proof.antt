@@ -7,7 +7,7 @@ use borrow.Author.Needs.{needs}
 use Rattle.rules.proofs.Texts as texts
 use Rattle.rules.specs.Listing.{hex}
 use Rattle.rules.specs.Bytes.{space, hash}
-use Rattle.lister.proofs.Writing as law
+use Rattle.digits.proofs.Laws.{put-front}
 use Rattle.lister.proofs.line.put_pattern.Statement.{statement}
 use Rattle.lister.proofs.line.put_pattern.Tie as tie
 
@@ -36,9 +36,9 @@ returns c =
     let r = c .before .before .put-hex .result in
     let e : r + 1 + 1 ≡ r + 2 = omega arith in
     rw e at
-    (law.put-front (a .out .now) (c .before .before .before .before .before .before .before .before .before .before .put-byte .last .0) (c .before .before .put-hex .last .0) (a .at) (a .at + 0) (a .at + 1) space (r + 1) (hash ∷ hex 8 (a .v)) (omega arith) refl
+    (put-front (a .out .now) (c .before .before .before .before .before .before .before .before .before .before .put-byte .last .0) (c .before .before .put-hex .last .0) (a .at) (a .at + 0) (a .at + 1) space (r + 1) (hash ∷ hex 8 (a .v)) (omega arith) refl
     (c .before .before .before .before .before .before .before .before .before .before .put-byte .ensures)
-    (law.put-front (c .before .before .before .before .before .before .before .before .before .before .put-byte .last .0) (c .before .before .before .before .before .before .put-byte2 .last .0) (c .before .before .put-hex .last .0) (a .at + 1) (a .at + 1) (a .at + 2) hash r (hex 8 (a .v)) refl (omega arith)
+    (put-front (c .before .before .before .before .before .before .before .before .before .before .put-byte .last .0) (c .before .before .before .before .before .before .put-byte2 .last .0) (c .before .before .put-hex .last .0) (a .at + 1) (a .at + 1) (a .at + 2) hash r (hex 8 (a .v)) refl (omega arith)
     (c .before .before .before .before .before .before .put-byte2 .ensures)
     (c .before .before .put-hex .ensures)))
 

@@ -5,11 +5,11 @@ use native.Mathlib.Omega.{arith}
 use lib.ListN.{length, take, getD}
 use borrow.Author.Needs.{needs}
 use Rattle.rules.proofs.Lines.{line-short, listing-none, listing-next}
-use Rattle.rules.proofs.Effects.{table-short, table-long}
+use Rattle.rules.proofs.Table.{table-short, table-long}
 use Rattle.rules.specs.Table.{program}
 use Rattle.rules.specs.Listing.{lineOf, listing}
 use Rattle.digits.specs.Put.{Put}
-use Rattle.lister.proofs.Writing as law
+use Rattle.digits.proofs.Laws.{put-next}
 use Rattle.lister.proofs.lines.put_lines.Statement.{statement}
 use Rattle.lister.proofs.lines.put_lines.Tie as tie
 
@@ -61,7 +61,7 @@ loop-again c =
       omega (arith, c .before .before .put-line .ensures .length-told, line-short (program (a .table .now) (a .count)) (c .before .before .before .before .before .before .before .before .before .pre) i (c .before .before .before .before .before .loop-test .taken)),
       c .before .before .put-line .kept .0 ∙ v .2,
       rw (listing-next (a .table .now) i (omega (arith, table-short (program (c .before .before .before .before .before .before .before .before .before .args .table .now) (c .before .before .before .before .before .before .before .before .before .args .count)) (c .before .before .before .before .before .before .before .before .before .pre), table-long (program (c .before .before .before .before .before .before .before .before .before .args .table .now) (c .before .before .before .before .before .before .before .before .before .args .count)) (c .before .before .before .before .before .before .before .before .before .pre))))
-          (law.put-next (a .out .now) (c .before .before .before .before .before .before .loop .out) (c .before .before .put-line .last .0) (listing (take i (a .table .now))) (lineOf (getD (a .table .now) i 0)) (c .before .before .before .before .before .before .loop .at) (c .before .before .put-line .result) (v .3) (c .before .before .put-line .ensures)),
+          (put-next (a .out .now) (c .before .before .before .before .before .before .loop .out) (c .before .before .put-line .last .0) (listing (take i (a .table .now))) (lineOf (getD (a .table .now) i 0)) (c .before .before .before .before .before .before .loop .at) (c .before .before .put-line .result) (v .3) (c .before .before .put-line .ensures)),
     )
 
 same-length : tie.Need-same-length Inv-loop μ-loop
