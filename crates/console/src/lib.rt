@@ -1,6 +1,5 @@
 // What the console program prints for a source, in lent bytes.
 mod lines;
-mod numbers;
 mod report;
 mod values;
 mod words;
@@ -23,7 +22,7 @@ pub fn print(source: &[u8], out: &mut [u8; 32768]) -> usize
     match made {
         Assembled::Made(length) => report::put_run(out, &table, length),
         Assembled::Fault(refusal, place) => {
-            lines::put_refused(out, numbers::text_number(refusal), place)
+            lines::put_refused(out, numbers::text_number(refusal) as usize, place)
         }
     }
 }

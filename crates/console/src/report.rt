@@ -2,7 +2,6 @@
 use crate::lines::put_cell;
 use crate::lines::put_ending;
 use crate::lines::put_registers;
-use crate::numbers::ending_number;
 use rules::Run;
 ghost use mathlib.Core.Path.{_≡_};
 ghost use mathlib.Core.List.{[]};
@@ -34,7 +33,7 @@ fn put_report(out: &mut [u8], ran: Run, bits: &[u32], tags: &[u8]) -> usize
 {
     let ending = ran.ending;
     let registers = ran.registers;
-    let number = ending_number(ending);
+    let number = numbers::ending_number(ending) as usize;
     let a = put_ending(out, number, ran.steps);
     let b = a + put_registers(out, a, registers.pc, registers.sp, registers.fbr);
     b + put_cells(out, b, registers.sp, bits, tags)
