@@ -48,7 +48,7 @@ pub shown : (source new t : List ℕ) (r : ℕ) → printed source ≡ t → Put
     → (r ≡ length (printed source)) × (new ≡ printed source ++ replicate (32768 - length (printed source)) 0)
 shown source new t r e p =
     let q : Put (replicate 32768 0) new 0 (printed source) r = rw e p in
-    (q .length-told, put-zeros 32768 r new (printed source) (printed-short source) q)
+    (q .length-told, put-zeros {n = 32768} (printed-short source) q)
 
 -- so what is told lies within the lent bytes
 pub told-within : (source new : List ℕ) (r : ℕ) → (r ≡ length (printed source)) × (new ≡ printed source ++ replicate (32768 - length (printed source)) 0) → r ≤ length new

@@ -5,7 +5,7 @@ use crate::lines::put_registers;
 use rules::Run;
 ghost use mathlib.Core.Path.{_≡_};
 ghost use mathlib.Core.List.{[]};
-ghost use Prim.Native.Nat.{_≤_, _<_};
+ghost use Prim.Native.Nat.{_*_, _≤_, _<_};
 ghost use lib.ListN.{length};
 ghost use Rattle.rules.specs.Table.{program};
 ghost use Rattle.rules.specs.State.{memory};
@@ -15,7 +15,7 @@ ghost use Rattle.digits.specs.Put.{Put};
 // Writes the lines of the first `sp` cells.
 fn put_cells(out: &mut [u8], at: usize, sp: usize, bits: &[u32], tags: &[u8]) -> usize
     requires { ⌜ (at ≤ 128) × (sp < 1000) × (length (now bits) ≡ 1000) × (length (now tags) ≡ 1000) ⌝ }
-    ensures { λ r. ⌜ Put (now (out .entry)) (now (out .exit)) at (cellLines (memory (now (bits .entry)) (now (tags .entry)) []) 0 sp) r ⌝ }
+    ensures { λ r. ⌜ Put (now (out .entry)) (now (out .exit)) at (cellLines (memory (now (bits .entry)) (now (tags .entry)) []) 0 sp) r × (r ≤ 29 * sp) ⌝ }
 {
     let mut told = 0;
     let mut i = 0;

@@ -27,6 +27,4 @@ module _ (place code v : ℕ) (kind : Kind) (ec : code ≡ codeOf place) (ek : k
 
   pub put-parts : (old m₁ m₂ new : List ℕ) (at n m : ℕ) → Put old m₁ at (nameOf code) n → Put m₁ m₂ (at + n) (spaced (operandText kind v)) m → new ≡ set m₂ (at + (n + m)) LF → Put old new at (lineOf place) (n + m + 1)
   put-parts old m₁ m₂ new at n m p q e =
-      rw parts
-      (put-last old m₂ new at (at + (n + m)) LF (n + m) (nameOf code ++ spaced (operandText kind v)) refl
-      (put-append old m₁ m₂ at (nameOf code) (spaced (operandText kind v)) n m p q) e)
+      rw parts (put-last LF (put-append p q) e)
