@@ -1,5 +1,5 @@
 -- The console's lines, word by word: what each word is, and how long it can be. Assumes nothing.
-use Prim.Native.Nat.{ℕ, zero, suc, _+_, _≤_}
+use Prim.Native.Nat.{ℕ, zero, suc, _≤_}
 use mathlib.Core.Path.{_≡_, refl}
 use mathlib.Core.List.{List, [], _∷_, _++_, append-assoc}
 use native.Mathlib.Omega.{arith}
@@ -84,10 +84,10 @@ module _ (b t : ℕ) where
 
 -- ---- lengths, with the byte after
 
-pub number-short : (n b : ℕ) → length (decimal 9 n ++ b ∷ []) ≤ 11
+number-short : (n b : ℕ) → length (decimal 9 n ++ b ∷ []) ≤ 11
 number-short n b = rw length-append (omega (arith, length-decimal 9 n))
 
-pub tag-short : (t b : ℕ) → length (tagName t ++ b ∷ []) ≤ 6
+tag-short : (t b : ℕ) → length (tagName t ++ b ∷ []) ≤ 6
 unfolding tagName text
 tag-short zero b = omega arith
 tag-short (suc zero) b = omega arith
@@ -95,7 +95,7 @@ tag-short (suc (suc zero)) b = omega arith
 tag-short (suc (suc (suc zero))) b = omega arith
 tag-short (suc (suc (suc (suc t)))) b = omega arith
 
-pub value-short : (v t b : ℕ) → length (valueText v t ++ b ∷ []) ≤ 12
+value-short : (v t b : ℕ) → length (valueText v t ++ b ∷ []) ≤ 12
 unfolding valueText
 value-short v t b =
     rw length-append
