@@ -1,5 +1,5 @@
 -- What is printed: how long it can be, and what it is for each answer of the assembler. Assumes nothing.
-use Prim.Native.Nat.{ℕ, _+_, _-_, _≤_}
+use Prim.Native.Nat.{ℕ, _-_, _≤_}
 use mathlib.Core.Path.{_≡_}
 use mathlib.Core.List.{List, [], _∷_, _++_}
 use native.Mathlib.Omega.{arith}
@@ -15,7 +15,7 @@ use Rattle.rules.specs.declared.Assembled.{Assembled}
 use Rattle.rules.specs.declared.Assembled.the-variants.{Made, Fault}
 use Rattle.rules.specs.declared.TextRefusal.{TextRefusal}
 use Rattle.digits.specs.Put.{Put}
-use Rattle.lister.proofs.Writing.{put-zeros}
+use Rattle.digits.proofs.Laws.{put-zeros}
 use Rattle.console.proofs.Reported.{report-short, refused-short}
 use Rattle.console.proofs.ConsoleRun.{console-sp}
 
@@ -48,7 +48,7 @@ pub shown : (source new t : List ℕ) (r : ℕ) → printed source ≡ t → Put
     → (r ≡ length (printed source)) × (new ≡ printed source ++ replicate (32768 - length (printed source)) 0)
 shown source new t r e p =
     let q : Put (replicate 32768 0) new 0 (printed source) r = rw e p in
-    (q .length-told, put-zeros 32768 r new (printed source) (printed-short source) q)
+    (q .length-told, put-zeros {n = 32768} (printed-short source) q)
 
 -- so what is told lies within the lent bytes
 pub told-within : (source new : List ℕ) (r : ℕ) → (r ≡ length (printed source)) × (new ≡ printed source ++ replicate (32768 - length (printed source)) 0) → r ≤ length new

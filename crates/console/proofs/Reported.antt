@@ -1,5 +1,5 @@
 -- The report of a run: its parts, and how long it can be. Assumes nothing.
-use Prim.Native.Nat.{ℕ, zero, suc, _+_, _*_, _-_, _≤_, _<_}
+use Prim.Native.Nat.{ℕ, zero, suc, _+_, _*_, _≤_, _<_}
 use mathlib.Core.Path.{_≡_, refl, ap, sym, _∙_}
 use mathlib.Core.List.{List, [], _∷_, _++_, append-assoc, append-nil}
 use native.Mathlib.Nat.{add-zero, zero-add}
@@ -38,7 +38,7 @@ module _ (b t : List ℕ) where
   unfolding cellText
   cells-next i = rw add-one (rw zero-add at (lines-more [] i 0))
 
-  pub cells-short : (h : List ℕ) (k i : ℕ) → length (cellLines (memory b t h) i k) ≤ 29 * k
+  cells-short : (h : List ℕ) (k i : ℕ) → length (cellLines (memory b t h) i k) ≤ 29 * k
   unfolding cellLines
   cells-short h zero i = omega arith
   cells-short h (suc k) i =
@@ -46,12 +46,12 @@ module _ (b t : List ℕ) where
 
 -- ---- the first lines
 
-pub ending-short : (n s : ℕ) → length (line (text "end" ∷ decimal 9 n ∷ text "steps" ∷ decimal 9 s ∷ [])) ≤ 32
+ending-short : (n s : ℕ) → length (line (text "end" ∷ decimal 9 n ∷ text "steps" ∷ decimal 9 s ∷ [])) ≤ 32
 unfolding text
 ending-short n s =
     rw (line-four (text "end") (decimal 9 n) (text "steps") (decimal 9 s)) (simp length-append (omega (arith, length-decimal 9 n, length-decimal 9 s)))
 
-pub registers-short : (p s f : ℕ) → length (line (text "PC" ∷ decimal 9 p ∷ text "SP" ∷ decimal 9 s ∷ text "FBR" ∷ decimal 9 f ∷ [])) ≤ 43
+registers-short : (p s f : ℕ) → length (line (text "PC" ∷ decimal 9 p ∷ text "SP" ∷ decimal 9 s ∷ text "FBR" ∷ decimal 9 f ∷ [])) ≤ 43
 unfolding text
 registers-short p s f =
     rw (line-six (text "PC") (decimal 9 p) (text "SP") (decimal 9 s) (text "FBR") (decimal 9 f))

@@ -1,5 +1,5 @@
--- The console's lines, word by word: what each word is, how long it can be, and words put one after the other. Assumes nothing.
-use Prim.Native.Nat.{ℕ, zero, suc, _+_, _≤_}
+-- The console's lines, word by word: what each word is, and how long it can be. Assumes nothing.
+use Prim.Native.Nat.{ℕ, zero, suc, _≤_}
 use mathlib.Core.Path.{_≡_, refl}
 use mathlib.Core.List.{List, [], _∷_, _++_, append-assoc}
 use native.Mathlib.Omega.{arith}
@@ -15,33 +15,24 @@ use Rattle.rules.specs.Console.{line, tagName, valueText, cellLine}
 use Rattle.rules.proofs.Tests.{by-test}
 use Rattle.rules.proofs.Texts.{length-decimal, length-signed, length-hex}
 use Rattle.digits.specs.Put.{Put}
-use Rattle.digits.proofs.Laws.{put-append}
-use Rattle.lister.proofs.Writing.{put-next, put-zeros}
-
--- ---- a text after a text: from the start on, and from a place on
-
-pub next : {old mid new s t : List ℕ} {m n : ℕ} → Put old mid 0 s m → Put mid new m t n → Put old new 0 (s ++ t) (m + n)
-next {old} {mid} {new} {s} {t} {m} {n} p q = put-next old mid new s t m n p q
-
-pub after : {old mid new s t : List ℕ} {at m n : ℕ} → Put old mid at s m → Put mid new (at + m) t n → Put old new at (s ++ t) (m + n)
-after {old} {mid} {new} {s} {t} {at} {m} {n} p q = put-append old mid new at s t m n p q
+use Rattle.digits.proofs.Laws.{put-zeros}
 
 -- a text that was put over zeros, from the first on, is what stands there
 pub whole : (k r : ℕ) (new t : List ℕ) → length t ≤ k → Put (replicate k 0) new 0 t r → take r new ≡ t
-whole k r new t h p = rw (put-zeros k r new t h p) (take-at t _ r (omega (arith, p .length-told)))
+whole k r new t h p = rw (put-zeros {n = k} h p) (take-at t _ r (omega (arith, p .length-told)))
 
--- ---- lines of so many words
+-- ---- lines of so many words, a word with its number at a time
 
 pub line-three : (w v u : List ℕ) → line (w ∷ v ∷ u ∷ []) ≡ ((w ++ space ∷ []) ++ (v ++ space ∷ [])) ++ (u ++ LF ∷ [])
 unfolding line
 line-three w v u = simp append-assoc
 
-pub line-four : (w v u t : List ℕ) → line (w ∷ v ∷ u ∷ t ∷ []) ≡ (((w ++ space ∷ []) ++ (v ++ space ∷ [])) ++ (u ++ space ∷ [])) ++ (t ++ LF ∷ [])
+pub line-four : (w v u t : List ℕ) → line (w ∷ v ∷ u ∷ t ∷ []) ≡ ((w ++ space ∷ []) ++ (v ++ space ∷ [])) ++ ((u ++ space ∷ []) ++ (t ++ LF ∷ []))
 unfolding line
 line-four w v u t = simp append-assoc
 
 pub line-six : (w v u t s r : List ℕ) → line (w ∷ v ∷ u ∷ t ∷ s ∷ r ∷ [])
-    ≡ (((((w ++ space ∷ []) ++ (v ++ space ∷ [])) ++ (u ++ space ∷ [])) ++ (t ++ space ∷ [])) ++ (s ++ space ∷ [])) ++ (r ++ LF ∷ [])
+    ≡ (((w ++ space ∷ []) ++ (v ++ space ∷ [])) ++ ((u ++ space ∷ []) ++ (t ++ space ∷ []))) ++ ((s ++ space ∷ []) ++ (r ++ LF ∷ []))
 unfolding line
 line-six w v u t s r = simp append-assoc
 
@@ -93,10 +84,10 @@ module _ (b t : ℕ) where
 
 -- ---- lengths, with the byte after
 
-pub number-short : (n b : ℕ) → length (decimal 9 n ++ b ∷ []) ≤ 11
+number-short : (n b : ℕ) → length (decimal 9 n ++ b ∷ []) ≤ 11
 number-short n b = rw length-append (omega (arith, length-decimal 9 n))
 
-pub tag-short : (t b : ℕ) → length (tagName t ++ b ∷ []) ≤ 6
+tag-short : (t b : ℕ) → length (tagName t ++ b ∷ []) ≤ 6
 unfolding tagName text
 tag-short zero b = omega arith
 tag-short (suc zero) b = omega arith
@@ -104,7 +95,7 @@ tag-short (suc (suc zero)) b = omega arith
 tag-short (suc (suc (suc zero))) b = omega arith
 tag-short (suc (suc (suc (suc t)))) b = omega arith
 
-pub value-short : (v t b : ℕ) → length (valueText v t ++ b ∷ []) ≤ 12
+value-short : (v t b : ℕ) → length (valueText v t ++ b ∷ []) ≤ 12
 unfolding valueText
 value-short v t b =
     rw length-append

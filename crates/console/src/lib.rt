@@ -1,6 +1,5 @@
 // What the console program prints for a source, in lent bytes.
 mod lines;
-mod numbers;
 mod report;
 mod values;
 mod words;
@@ -27,7 +26,7 @@ pub fn print(source: &[u8], out: &mut [u8; OUTPUT_SIZE]) -> usize
     match made {
         Assembled::Made(length) => report::put_run(out, &table, length),
         Assembled::Fault(refusal, place) => {
-            lines::put_refused(out, numbers::text_number(refusal), place)
+            lines::put_refused(out, numbers::text_number(refusal) as usize, place)
         }
     }
 }

@@ -1,8 +1,8 @@
 // The lines that the console prints.
 use crate::values::put_value;
+use crate::words::put_named;
 use crate::words::put_number;
 use crate::words::put_tag;
-use crate::words::put_word;
 ghost use mathlib.Core.List.{[], _∷_};
 ghost use Prim.Native.Nat.{_≤_};
 ghost use Rattle.rules.specs.Lists.{text};
@@ -17,37 +17,31 @@ const LINE_SIZE: usize = 64;
 pub(crate) fn put_refused(out: &mut [u8], number: usize, place: usize) -> usize
     ensures { λ r. ⌜ Put (now (out .entry)) (now (out .exit)) 0 (line (text "refused" ∷ decimal 9 number ∷ decimal 9 place ∷ [])) r ⌝ }
 {
-    let a = put_word(out, 0, b"refused", b' ');
-    let b = a + put_number(out, a, number, b' ');
-    b + put_number(out, b, place, b'\n')
+    let a = put_named(out, 0, b"refused", number, b' ');
+    a + put_number(out, a, place, b'\n')
 }
 
 // Writes the answer and the steps of a run.
 pub(crate) fn put_ending(out: &mut [u8], number: usize, steps: usize) -> usize
-    ensures { λ r. ⌜ Put (now (out .entry)) (now (out .exit)) 0 (line (text "end" ∷ decimal 9 number ∷ text "steps" ∷ decimal 9 steps ∷ [])) r ⌝ }
+    ensures { λ r. ⌜ Put (now (out .entry)) (now (out .exit)) 0 (line (text "end" ∷ decimal 9 number ∷ text "steps" ∷ decimal 9 steps ∷ [])) r × (r ≤ 40) ⌝ }
 {
-    let a = put_word(out, 0, b"end", b' ');
-    let b = a + put_number(out, a, number, b' ');
-    let c = b + put_word(out, b, b"steps", b' ');
-    c + put_number(out, c, steps, b'\n')
+    let a = put_named(out, 0, b"end", number, b' ');
+    a + put_named(out, a, b"steps", steps, b'\n')
 }
 
 // Writes PC, SP and FBR from `at` on.
 pub(crate) fn put_registers(out: &mut [u8], at: usize, pc: usize, sp: usize, fbr: usize) -> usize
     requires { ⌜ at ≤ 64 ⌝ }
-    ensures { λ r. ⌜ Put (now (out .entry)) (now (out .exit)) at (line (text "PC" ∷ decimal 9 pc ∷ text "SP" ∷ decimal 9 sp ∷ text "FBR" ∷ decimal 9 fbr ∷ [])) r ⌝ }
+    ensures { λ r. ⌜ Put (now (out .entry)) (now (out .exit)) at (line (text "PC" ∷ decimal 9 pc ∷ text "SP" ∷ decimal 9 sp ∷ text "FBR" ∷ decimal 9 fbr ∷ [])) r × (r ≤ 60) ⌝ }
 {
-    let a = put_word(out, at, b"PC", b' ');
-    let b = a + put_number(out, at + a, pc, b' ');
-    let c = b + put_word(out, at + b, b"SP", b' ');
-    let d = c + put_number(out, at + c, sp, b' ');
-    let e = d + put_word(out, at + d, b"FBR", b' ');
-    e + put_number(out, at + e, fbr, b'\n')
+    let a = put_named(out, at, b"PC", pc, b' ');
+    let b = a + put_named(out, at + a, b"SP", sp, b' ');
+    b + put_named(out, at + b, b"FBR", fbr, b'\n')
 }
 
 // Writes the line of a cell at the start.
 fn put_cell_line(out: &mut [u8], i: usize, bits: u32, tag: u8) -> usize
-    ensures { λ r. ⌜ Put (now (out .entry)) (now (out .exit)) 0 (cellLine i (record { bits = bits; tag = tag })) r ⌝ }
+    ensures { λ r. ⌜ Put (now (out .entry)) (now (out .exit)) 0 (cellLine i (record { bits = bits; tag = tag })) r × (r ≤ 29) ⌝ }
 {
     let a = put_number(out, 0, i, b' ');
     let b = a + put_tag(out, a, tag);

@@ -2,12 +2,11 @@
 use crate::lines::put_cell;
 use crate::lines::put_ending;
 use crate::lines::put_registers;
-use crate::numbers::ending_number;
 use rules::Run;
 use rules::tags;
 ghost use mathlib.Core.Path.{_≡_};
 ghost use mathlib.Core.List.{[]};
-ghost use Prim.Native.Nat.{_≤_, _<_};
+ghost use Prim.Native.Nat.{_*_, _≤_, _<_};
 ghost use lib.ListN.{length};
 ghost use Rattle.rules.specs.Table.{program};
 ghost use Rattle.rules.specs.State.{memory};
@@ -24,7 +23,7 @@ const LIMIT: usize = 100_000;
 // Writes the lines of the first `sp` cells.
 fn put_cells(out: &mut [u8], at: usize, sp: usize, bits: &[u32], tags: &[u8]) -> usize
     requires { ⌜ (at ≤ 128) × (sp < consoleCells) × (length (now bits) ≡ consoleCells) × (length (now tags) ≡ consoleCells) ⌝ }
-    ensures { λ r. ⌜ Put (now (out .entry)) (now (out .exit)) at (cellLines (memory (now (bits .entry)) (now (tags .entry)) []) 0 sp) r ⌝ }
+    ensures { λ r. ⌜ Put (now (out .entry)) (now (out .exit)) at (cellLines (memory (now (bits .entry)) (now (tags .entry)) []) 0 sp) r × (r ≤ 29 * sp) ⌝ }
 {
     let mut told = 0;
     let mut i = 0;
@@ -42,7 +41,7 @@ fn put_report(out: &mut [u8], ran: Run, bits: &[u32], tags: &[u8]) -> usize
 {
     let ending = ran.ending;
     let registers = ran.registers;
-    let number = ending_number(ending);
+    let number = numbers::ending_number(ending) as usize;
     let a = put_ending(out, number, ran.steps);
     let b = a + put_registers(out, a, registers.pc, registers.sp, registers.fbr);
     b + put_cells(out, b, registers.sp, bits, tags)

@@ -11,7 +11,7 @@ ghost use Rattle.digits.specs.Put.{Put};
 // Writes the bits of a FLOAT, and LF.
 fn put_pattern(out: &mut [u8], at: usize, bits: u32) -> usize
     requires { ⌜ at ≤ 64 ⌝ }
-    ensures { λ r. ⌜ Put (now (out .entry)) (now (out .exit)) at ((hash ∷ hex 8 bits) ++ LF ∷ []) r ⌝ }
+    ensures { λ r. ⌜ Put (now (out .entry)) (now (out .exit)) at ((hash ∷ hex 8 bits) ++ LF ∷ []) r × (r ≤ 12) ⌝ }
 {
     digits::put_byte(out, at, 0, b'#');
     let n = digits::put_hex(out, at + 1, bits);
@@ -21,7 +21,7 @@ fn put_pattern(out: &mut [u8], at: usize, bits: u32) -> usize
 
 // Writes a signed number, and LF.
 fn put_signed(out: &mut [u8], at: usize, bits: u32) -> usize
-    ensures { λ r. ⌜ Put (now (out .entry)) (now (out .exit)) at (signedText bits ++ LF ∷ []) r ⌝ }
+    ensures { λ r. ⌜ Put (now (out .entry)) (now (out .exit)) at (signedText bits ++ LF ∷ []) r × (r ≤ 12) ⌝ }
 {
     let n = digits::put_signed(out, at, bits);
     digits::put_byte(out, at, n, b'\n');
@@ -31,7 +31,7 @@ fn put_signed(out: &mut [u8], at: usize, bits: u32) -> usize
 // Writes the value of a cell, and LF.
 pub(crate) fn put_value(out: &mut [u8], at: usize, bits: u32, tag: u8) -> usize
     requires { ⌜ at ≤ 64 ⌝ }
-    ensures { λ r. ⌜ Put (now (out .entry)) (now (out .exit)) at (valueText bits tag ++ LF ∷ []) r ⌝ }
+    ensures { λ r. ⌜ Put (now (out .entry)) (now (out .exit)) at (valueText bits tag ++ LF ∷ []) r × (r ≤ 12) ⌝ }
 {
     if tag == tags::FLOAT {
         return put_pattern(out, at, bits);

@@ -4,7 +4,7 @@
 -- `demand3`. What it says is specs/Series.antt, over the definitions that the contracts of the calls cite. Assumes nothing.
 use Prim.Native.Nat.{ℕ, zero, suc, _+_, _-_}
 use mathlib.Core.Path.{_≡_, refl, sym, ap, _∙_, subst}
-use mathlib.Core.Bool.{Bool, true, false, _||_, or-true}
+use mathlib.Core.Bool.{Bool, true, false, _||_, cond, or-true}
 use mathlib.Core.List.{List}
 use native.Mathlib.Nat.{pos-of-ne-zero}
 use native.Mathlib.Omega.{arith}
@@ -12,29 +12,35 @@ use lib.Dec.{eqb}
 use borrow.Author.Tests.{eqb-true, eqb-false, eq-eqb, ne-eqb}
 use Rattle.rules.specs.Table.{Program}
 use Rattle.rules.specs.State.{Memory}
+use Rattle.rules.specs.Numbers.{machineNumber, numberOfStep}
 use Rattle.rules.specs.Step.{Stepped}
 use Rattle.rules.specs.Back.{back}
 use Rattle.rules.specs.Reset as Reset
+use Rattle.rules.specs.declared.MachineRefusal.the-variants.{NoHistory}
 use Rattle.rules.specs.declared.Begun.the-variants.{Ready}
-use Rattle.promises.specs.Series.{Request, Session, refuses, series, fresh, Promised}
+use Rattle.promises.specs.Series.{Request, Session, series, fresh, Promised}
 use Rattle.promises.proofs.Runs.{standing, afterSteps}
 use Rattle.promises.proofs.Demand3Trail.{State, Good, Trail, back-empty, back-none, good-trail, steps-trail, back-trail}
 use Rattle.promises.proofs.Demand3Reset.{Accepted, left, reset-accepted, good-reset, reset-empty}
 use Rattle.promises.proofs.Demand3Kept.{stateOf, Kept, keep-series}
 
+-- the number of a step-back that is refused for want of a history, or done
+abbrev answered : Bool → ℕ
+answered none = cond none (machineNumber NoHistory) 0
+
 module _ (p : Program) (s₀ : State) (good₀ : Good p s₀) (empty : s₀ .registers .used ≡ 0) where
   -- a step-back is accepted exactly where the trail has a step to take back, and the machine a history to do it by
   refused-when : (s : Session) (k : ℕ) → Trail p s₀ k (stateOf s) → s .made ≡ s .undone + k → (b : Bool) → eqb (s .registers .h) 0 ≡ b
-      → refuses (back p (s .registers) (s .memory) .answer) ≡ (b || eqb (s .made) (s .undone))
+      → numberOfStep (back p (s .registers) (s .memory) .answer) ≡ answered (b || eqb (s .made) (s .undone))
   refused-when s zero q c b x =
-      ap (λ (o : Stepped). refuses (o .answer))
+      ap (λ (o : Stepped). numberOfStep (o .answer))
       (back-empty p (stateOf s) (good-trail p s₀ good₀ 0 (stateOf s) q) (ap (λ (t : State). t .registers .used) q ∙ empty))
-      ∙ sym (ap (λ (y : Bool). b || y) (eq-eqb (s .made) (s .undone) (omega (arith, c))) ∙ or-true b)
+      ∙ sym (ap answered (ap (λ (y : Bool). b || y) (eq-eqb (s .made) (s .undone) (omega (arith, c))) ∙ or-true b))
   refused-when s (suc k) t c true x =
-      ap (λ (o : Stepped). refuses (o .answer)) (back-none p (stateOf s) (good-trail p s₀ good₀ (suc k) (stateOf s) t) (eqb-true _ _ x))
+      ap (λ (o : Stepped). numberOfStep (o .answer)) (back-none p (stateOf s) (good-trail p s₀ good₀ (suc k) (stateOf s) t) (eqb-true _ _ x))
   refused-when s (suc k) t c false x =
-      ap (λ (o : Stepped). refuses (o .answer)) (back-trail p s₀ good₀ k (stateOf s) t (pos-of-ne-zero (eqb-false _ _ x)))
-      ∙ sym (ne-eqb (s .made) (s .undone) (λ e. omega (arith, c, e)))
+      ap (λ (o : Stepped). numberOfStep (o .answer)) (back-trail p s₀ good₀ k (stateOf s) t (pos-of-ne-zero (eqb-false _ _ x)))
+      ∙ sym (ap answered (ne-eqb (s .made) (s .undone) (λ e. omega (arith, c, e))))
 
   -- a kept session is where S minus B steps lead
   after-kept : (s : Session) → Kept p s₀ s

@@ -18,7 +18,8 @@ use Rattle.rules.specs.declared.Begun.the-variants.{Ready, NotReady}
 use Rattle.rules.proofs.Tests.{every-at}
 use Rattle.rules.proofs.Fair.{FairCell}
 use Rattle.rules.proofs.Effects.{fair-plain}
-use Rattle.rules.proofs.Sound.{zeros-at, facts-sound}
+use Rattle.rules.proofs.Sound.{facts-sound}
+use Rattle.rules.proofs.Zeros.{zeros-at}
 use Rattle.promises.proofs.Demand3Trail.{State, Good}
 
 -- ---- a reset that is accepted

@@ -30,8 +30,7 @@ use Rattle.rules.specs.declared.Packed.the-variants.{Length}
 use Rattle.rules.specs.declared.Taken.the-variants.{Place}
 use Rattle.rules.proofs.Fields.{field-length, value-field}
 use Rattle.rules.proofs.Tests.{and-left, and-right}
-use Rattle.rules.proofs.Effects.{table-short}
-use Rattle.rules.proofs.Table.{used-sound, used-count, used-whole}
+use Rattle.rules.proofs.Table.{table-short, used-sound, used-count, used-whole}
 use Rattle.rules.proofs.Bits.{value-zeros, packed-length, packed-bits}
 use Rattle.rules.proofs.Packing.{instruction-length, bits-image, image-fits, pack-done}
 use Rattle.rules.proofs.Unpacking.{operand-taken, one-operand, from-one, unpacked-from, padded-short, unpack-filed}

@@ -20,8 +20,7 @@ use Rattle.rules.specs.Assemble.{done, translated, assemble}
 use Rattle.rules.specs.Listing.{Written, listing, list}
 use Rattle.rules.specs.declared.Listed.the-variants.{Told}
 use Rattle.rules.specs.declared.Assembled.the-variants.{Made}
-use Rattle.rules.proofs.Effects.{table-short}
-use Rattle.rules.proofs.Table.{used-sound, used-count, used-whole}
+use Rattle.rules.proofs.Table.{table-short, used-sound, used-count, used-whole}
 use Rattle.rules.proofs.Lines.{listing-fits, list-told}
 use Rattle.promises.proofs.ListingRound.{listing-translated}
 

@@ -3,19 +3,20 @@
 -- says; proofs/Demand3.antt shows it. Assumes nothing.
 use Prim.Native.Nat.{ℕ, _+_, _-_, _≤_}
 use mathlib.Core.Path.{_≡_}
-use mathlib.Core.Bool.{Bool, true, false, _||_}
+use mathlib.Core.Bool.{_||_, cond}
 use mathlib.Core.List.{List, [], _∷_}
 use lib.ListN.{replicate}
 use lib.Dec.{eqb}
 use Rattle.rules.specs.Table.{Program}
 use Rattle.rules.specs.State.{Memory}
-use Rattle.rules.specs.Numbers.{registersAfter}
+use Rattle.rules.specs.Numbers.{machineNumber, numberOfStep, registersAfter}
 use Rattle.rules.specs.Step.{Stepped}
 use Rattle.rules.specs.Step as Step
 use Rattle.rules.specs.Back as Back
 use Rattle.rules.specs.Run as Run
 use Rattle.rules.specs.Reset as Reset
 use Rattle.rules.specs.declared.Registers.{Registers}
+use Rattle.rules.specs.declared.MachineRefusal.the-variants.{NoHistory}
 use Rattle.rules.specs.declared.Step.{Step}
 use Rattle.rules.specs.declared.Step.the-variants.{Next, Refused}
 
@@ -32,11 +33,7 @@ pub record Session : Type 0 where
   pub made : ℕ
   pub undone : ℕ
 
--- whether an answer is a refusal, and 1 for one that is none
-abbrev pub refuses : Step → Bool
-refuses (Next r) = false
-refuses (Refused e) = true
-
+-- 1 for an answer that is no refusal
 abbrev pub accepted : Step → ℕ
 accepted (Next r) = 1
 accepted (Refused e) = 0
@@ -97,5 +94,6 @@ pub record Promised (p : Program) (m : Memory) (s : Session) : Type 0 where
   pub memory : s .memory ≡ afresh p m (s .made - s .undone) .memory
   -- each of which is accepted
   pub steps : afresh p m (s .made - s .undone) .made ≡ s .made - s .undone
-  -- a step-back is refused exactly when S equals B, or H = 0
-  pub refused : refuses (Back.back p (s .registers) (s .memory) .answer) ≡ (eqb (s .registers .h) 0 || eqb (s .made) (s .undone))
+  -- a step-back is refused, with 9, exactly when S equals B, or H = 0; else it is done, with 0
+  pub refused : numberOfStep (Back.back p (s .registers) (s .memory) .answer)
+      ≡ cond (eqb (s .registers .h) 0 || eqb (s .made) (s .undone)) (machineNumber NoHistory) 0

@@ -2,7 +2,7 @@
 use Prim.Native.Nat.{ℕ, zero, suc, _+_, _-_, _*_, _/_, _%_, _^_, _≤_, _<_}
 use mathlib.Core.Path.{_≡_, refl, sym, ap, ap₂, _∙_, subst}
 use mathlib.Core.List.{List, [], _∷_, _++_}
-use native.Mathlib.Nat.{mod-eq-of-lt, mod-lt, zero-div, zero-mul, zero-add, sub-zero, zero-sub, suc-sub-suc, le-of-suc-le-suc, not-suc-le-zero, pow-succ'}
+use native.Mathlib.Nat.{mod-eq-of-lt, mod-lt, zero-div, zero-mul, zero-add, le-of-suc-le-suc, not-suc-le-zero, pow-succ'}
 use native.Mathlib.Omega.{arith}
 use lib.Arith.{digits-lt}
 use lib.ListN.{length, take, drop, getD, replicate, length-append, length-replicate, length-drop, replicate-append-replicate}
@@ -11,6 +11,7 @@ use lib.Seq.{take-at, drop-at, length-take-le, take-add, take-append-add}
 use Rattle.rules.specs.Lists.{splice}
 use Rattle.rules.specs.Fields.{field, value, bitsOf, bytesOf}
 use Rattle.rules.specs.Image.{packedTo}
+use Rattle.rules.proofs.Zeros.{take-zeros, drop-zeros}
 use Rattle.rules.proofs.Fields.{field-length, field-low, value-field}
 
 -- ---- each is 0 or 1
@@ -75,16 +76,6 @@ bitsOf-zeros zero = refl
 bitsOf-zeros (suc n) =
     ap₂ (λ (a b : List ℕ). a ++ b) (field-zero 8) (bitsOf-zeros n) ∙ replicate-append-replicate 8 (n * 8) 0
     ∙ ap (λ (k : ℕ). replicate k 0) (let e : 8 + n * 8 ≡ suc n * 8 = omega arith in e)
-
-pub drop-zeros : (k n : ℕ) → drop {A = ℕ} k (replicate n 0) ≡ replicate (n - k) 0
-drop-zeros zero n = ap (λ (m : ℕ). replicate m 0) (sym (sub-zero n))
-drop-zeros (suc k) zero = ap (λ (m : ℕ). replicate m 0) (sym (zero-sub (suc k)))
-drop-zeros (suc k) (suc n) = drop-zeros k n ∙ ap (λ (m : ℕ). replicate m 0) (sym (suc-sub-suc n k))
-
-take-zeros : (k n : ℕ) → k ≤ n → take {A = ℕ} k (replicate n 0) ≡ replicate k 0
-take-zeros zero n h = refl
-take-zeros (suc k) zero h = absurd (not-suc-le-zero h)
-take-zeros (suc k) (suc n) h = ap (λ (r : List ℕ). 0 ∷ r) (take-zeros k n (le-of-suc-le-suc h))
 
 -- bits written over zeros from the start
 splice-zeros : (n : ℕ) (f : List ℕ) → splice (bitsOf (replicate n 0)) 0 f ≡ f ++ replicate (n * 8 - length f) 0

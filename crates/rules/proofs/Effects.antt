@@ -1,6 +1,6 @@
 -- What an accepted step decides is fair: every instruction's effect lies within N and the program, in a sound state. Assumes nothing.
 use Prim.Native.Nat.{ℕ, zero, suc, _+_, _-_, _≤_, _<_, zero-le}
-use mathlib.Core.Path.{_≡_, refl, sym, ap, _∙_, subst}
+use mathlib.Core.Path.{_≡_, refl, sym, _∙_, subst}
 use mathlib.Core.Bool.{Bool, true, false, not, _&&_, _||_, cond, false≢true}
 use mathlib.Core.Logic.{⊎-elim}
 use mathlib.Core.List.{List, [], _∷_, map}
@@ -8,16 +8,14 @@ use native.Mathlib.Nat.{eq-or-lt-of-le}
 use native.Mathlib.Omega.{arith}
 use lib.Dec.{leb, ltb, eqb, lit≤}
 use lib.IntN.{ℤ, pos, negsuc, _+ℤ_}
-use lib.ListN.{length, getD, take, drop}
-use lib.Seq.{getD-take, length-take-le}
+use lib.ListN.{length, getD}
 use borrow.Author.Tests.{ltb-true, leb-true, eqb-true, eqb-false, not-true}
-use Rattle.rules.specs.Lists.{all, every}
-use Rattle.rules.specs.Sizes.{maxProgram}
+use Rattle.rules.specs.Lists.{every}
 use Rattle.rules.specs.Tags.{INT, FLOAT, MA, PA, int, pa, has}
 use Rattle.rules.specs.Words.{signed, holds}
 use Rattle.rules.specs.Floats.{unordered}
 use Rattle.rules.specs.Instructions.{Action, stop, pushInt, pushFloat, pushPa, dup, swap, sums, ints, divides, floats, compareFloats, one, equal, isNil, pushSp, popSp, pushFbr, popFbr, link, addSp, pushInd, storeInd, pushOff, storeOff, jump, jumpC, jumpInd, jsr, jsrInd, Row, codes, rows, rowOf, kindOf, actionOf}
-use Rattle.rules.specs.Table.{Program, codeOf, operandOf, within, soundPlace, soundTable, isZero}
+use Rattle.rules.specs.Table.{Program, codeOf, operandOf, within, soundPlace}
 use Rattle.rules.specs.State.{Memory, cellAt, soundCell, soundCells, stateTests, sound}
 use Rattle.rules.specs.Decide.{demand, inside, memoryAddress, programAddress, following, result, swapped, stored, moved, framed, linked, jumped, called, halted, addSpTo, frame, onValues, decide}
 use Rattle.rules.specs.Commit.{roomFor}
@@ -33,7 +31,9 @@ use Rattle.rules.specs.declared.Decision.{Decision}
 use Rattle.rules.specs.declared.Decision.the-variants.{Does, Refuses}
 use Rattle.rules.specs.declared.MachineRefusal.{MachineRefusal}
 use Rattle.rules.specs.declared.MachineRefusal.the-variants.{TooFewValues}
-use Rattle.rules.proofs.Tests.{and-left, and-right, every-at, all-at}
+use Rattle.rules.proofs.Tests.{and-left, and-right, every-at}
+pub use Rattle.rules.proofs.Table.{table-short, table-long}
+use Rattle.rules.proofs.Table.{place-sound}
 use Rattle.rules.proofs.Fair.{FairCell, FairCells, Sound, Going, Fair}
 
 -- ---- the tests of a sound state, as facts
@@ -198,37 +198,6 @@ within-target Target count v q h = leb-true v count h
 or-right : (a b : Bool) → (not a || b) ≡ true → a ≡ true → b ≡ true
 or-right true b h q = h
 or-right false b h q = absurd (false≢true q)
-
--- the table's part of a sound state
-module _ (p : Program) (h : soundTable p ≡ true) where
-  abbrev placed : Bool
-  placed = all (soundPlace (p .count)) (take (p .count) (p .places)) && all isZero (drop (p .count) (p .places))
-
-  abbrev sized : Bool
-  sized = eqb (length (p .places)) maxProgram && placed
-
-  pub table-short : p .count ≤ maxProgram
-  unfolding soundTable
-  table-short = leb-true (p .count) maxProgram (and-left (leb (p .count) maxProgram) sized h)
-
-  table-sized : sized ≡ true
-  unfolding soundTable
-  table-sized = and-right (leb (p .count) maxProgram) sized h
-
-  pub table-long : length (p .places) ≡ maxProgram
-  table-long = eqb-true (length (p .places)) maxProgram (and-left (eqb (length (p .places)) maxProgram) placed table-sized)
-
-  table-placed : all (soundPlace (p .count)) (take (p .count) (p .places)) ≡ true
-  table-placed =
-      and-left (all (soundPlace (p .count)) (take (p .count) (p .places))) (all isZero (drop (p .count) (p .places)))
-      (and-right (eqb (length (p .places)) maxProgram) placed table-sized)
-
-  -- a place below the program's length can be assembled
-  pub place-sound : (k : ℕ) → k < p .count → soundPlace (p .count) (getD (p .places) k 0) ≡ true
-  place-sound k kc =
-      ap (soundPlace (p .count)) (sym (getD-take (p .count) (p .places) k 0 kc))
-      ∙ all-at (soundPlace (p .count)) (take (p .count) (p .places)) k table-placed
-      (omega (arith, length-take-le (p .count) (p .places) (omega (arith, table-short, table-long))))
 
 place-aims : (count place : ℕ) → soundPlace count place ≡ true → aims (actionOf (codeOf place)) ≡ true → operandOf place ≤ count
 unfolding soundPlace kindOf actionOf aimed

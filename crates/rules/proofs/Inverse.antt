@@ -3,7 +3,6 @@ use Prim.Native.Nat.{ℕ, zero, suc, _+_, _-_, _^_, _≤_, _<_, zero-le}
 use mathlib.Core.Path.{_≡_, refl, sym, ap, ap₂, _∙_, subst}
 use mathlib.Core.Bool.{Bool, true, false, _&&_, cond}
 use mathlib.Core.List.{List, [], _∷_, _++_, append-assoc}
-use native.Mathlib.Nat.{le-of-suc-le-suc, not-suc-le-zero, sub-zero, zero-sub, suc-sub-suc}
 use native.Mathlib.Omega.{arith}
 use lib.Dec.{lit<}
 use lib.ListN.{length, getD, take, drop, set, replicate, length-append, length-drop}
@@ -23,23 +22,13 @@ use Rattle.rules.specs.declared.Effect.{Effect}
 use Rattle.rules.specs.declared.Decision.the-variants.{Does}
 use Rattle.rules.specs.declared.MachineRefusal.the-variants.{Broken}
 use Rattle.rules.specs.declared.Step.the-variants.{Next}
+use Rattle.rules.proofs.Zeros.{take-zeros, drop-zeros}
 use Rattle.rules.proofs.Places.{cellAddress-of, cellTag-of, cellBits-of, cellMark-of, cellZeros-of, stepPc-of, stepSp-of, stepFbr-of, stepCount-of, stepMark-of, stepZeros-of}
 use Rattle.rules.proofs.Splice.{length-part, drop-splice, rest-splice, length-splice, splice-back, sets-splice}
 use Rattle.rules.proofs.Fair.{Sound, Going, Fair, Narrow, Blank}
-use Rattle.rules.proofs.Effects.{sound-facts, judged-going, going-below, fair-judged, table-short}
+use Rattle.rules.proofs.Effects.{sound-facts, judged-going, going-below, fair-judged}
+use Rattle.rules.proofs.Table.{table-short}
 use Rattle.rules.proofs.Sound.{pa-sound, Each, each-take, each-drop, length-block, length-kept, length-record, sound-judged}
-
--- ---- zeros
-
-take-zeros : (n k : ℕ) → n ≤ k → _≡_ {A = List ℕ} (take n (replicate k 0)) (replicate n 0)
-take-zeros zero k h = refl
-take-zeros (suc n) zero h = absurd (not-suc-le-zero h)
-take-zeros (suc n) (suc k) h = ap (λ (l : List ℕ). 0 ∷ l) (take-zeros n k (le-of-suc-le-suc h))
-
-drop-zeros : (n k : ℕ) → _≡_ {A = List ℕ} (drop n (replicate k 0)) (replicate (k - n) 0)
-drop-zeros zero k = ap (λ (j : ℕ). replicate j 0) (sym (sub-zero k))
-drop-zeros (suc n) zero = ap (λ (j : ℕ). replicate j 0) (sym (zero-sub (suc n)))
-drop-zeros (suc n) (suc k) = drop-zeros n k ∙ ap (λ (j : ℕ). replicate j 0) (sym (suc-sub-suc k n))
 
 -- ---- cells that a place can keep: sound ones of 32 bits
 

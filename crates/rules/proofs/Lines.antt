@@ -20,8 +20,7 @@ use Rattle.rules.specs.declared.Kind.{Kind}
 use Rattle.rules.specs.declared.Kind.the-variants.{Bare, Immediate, Pattern, Offset, Target}
 use Rattle.rules.specs.declared.Listed.the-variants.{Failed}
 use Rattle.rules.specs.declared.TextRefusal.the-variants.{BrokenTable, WrongLength}
-use Rattle.rules.proofs.Effects.{table-short, place-sound}
-use Rattle.rules.proofs.Table.{used-sound, used-count}
+use Rattle.rules.proofs.Table.{table-short, place-sound, used-sound, used-count}
 use Rattle.rules.proofs.Tests.{by-test, and-left, and-right, below, at-below}
 use Rattle.rules.proofs.Tokens.{plain, allPlain}
 use Rattle.rules.proofs.Texts.{lastDigit, decimal-all, decimal-some, length-digits, length-signed, length-hex, signed-pos, signed-neg, hex-plain, hex-allowed, hex-low}

@@ -30,7 +30,8 @@ use Rattle.rules.specs.declared.Effect.{Effect}
 use Rattle.rules.specs.declared.Decision.the-variants.{Does}
 use Rattle.rules.specs.declared.MachineRefusal.the-variants.{TooFewValues}
 use Rattle.rules.proofs.Fair.{Sound, Going, Narrow}
-use Rattle.rules.proofs.Effects.{Meets, meets-does, meets-refuses, demands, sound-facts, judged-going, going-below, table-short}
+use Rattle.rules.proofs.Effects.{Meets, meets-does, meets-refuses, demands, sound-facts, judged-going, going-below}
+use Rattle.rules.proofs.Table.{table-short}
 use Rattle.rules.proofs.Sound.{each-splice, each-block, length-block}
 
 -- ---- the operations on words

@@ -20,8 +20,7 @@ use Rattle.rules.specs.declared.ImageRefusal.the-variants.{TableBroken, 
 use Rattle.rules.specs.declared.Packed.the-variants.{Length, Denied}
 use Rattle.rules.proofs.Fields.{field-length}
 use Rattle.rules.proofs.Splice.{splice-beside}
-use Rattle.rules.proofs.Effects.{table-short}
-use Rattle.rules.proofs.Table.{used-count}
+use Rattle.rules.proofs.Table.{table-short, used-count}
 use Rattle.rules.proofs.Bits.{Bits, bits-append, bits-field}
 
 -- ---- one instruction

@@ -25,6 +25,7 @@ use Rattle.rules.specs.declared.Decision.{Decision}
 use Rattle.rules.specs.declared.Decision.the-variants.{Does, Refuses}
 use Rattle.rules.specs.declared.MachineRefusal.the-variants.{Broken, AlreadyHalted, AtEnd}
 use Rattle.rules.specs.declared.Step.the-variants.{Next}
+use Rattle.rules.proofs.Zeros.{zeros-at}
 use Rattle.rules.proofs.Splice.{length-part, length-splice}
 use Rattle.rules.proofs.Fair.{FairCell, FairCells, Sound, Fair}
 use Rattle.rules.proofs.Effects.{fair-plain, sound-facts, judged-going, fair-judged}
@@ -32,11 +33,6 @@ use Rattle.rules.proofs.Effects.{fair-plain, sound-facts, judged-going,
 -- ---- a relation that holds between tags and bits at every place, and past their end
 abbrev pub Each : (ℕ → ℕ → Type 0) → List ℕ → List ℕ → Type 0
 Each P ts bs = (k : ℕ) → P (getD ts k 0) (getD bs k 0)
-
-pub zeros-at : (n k : ℕ) → _≡_ {A = ℕ} (getD (replicate n 0) k 0) 0
-zeros-at zero k = refl
-zeros-at (suc n) zero = refl
-zeros-at (suc n) (suc k) = zeros-at n k
 
 module _ (P : ℕ → ℕ → Type 0) (z : P 0 0) where
   pub each-take : (n : ℕ) (ts bs : List ℕ) → length ts ≡ length bs → Each P ts bs → Each P (take n ts) (take n bs)

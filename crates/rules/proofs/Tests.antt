@@ -1,9 +1,9 @@
 -- The laws of tests: two together, over lists (`all`, `every` and `same`, for the loops and the early returns that make them), and over the
 -- numbers below a bound. Assumes nothing.
 use Prim.Native.Nat.{ℕ, zero, suc, _+_, _≤_, _<_}
-use mathlib.Core.Path.{_≡_, refl, sym, ap, _∙_}
+use mathlib.Core.Path.{_≡_, refl, ap, _∙_}
 use mathlib.Core.Bool.{Bool, true, false, _&&_, _||_, false≢true, true≢false, and-false}
-use mathlib.Core.List.{List, [], _∷_, _++_}
+use mathlib.Core.List.{List, [], _∷_}
 use native.Mathlib.Nat.{not-suc-le-zero, le-of-suc-le-suc}
 use native.Mathlib.Numerals.{add-one}
 use native.Mathlib.Omega.{arith}
@@ -28,6 +28,10 @@ and-left false b h = absurd (false≢true h)
 pub and-right : (a b : Bool) → (a && b) ≡ true → b ≡ true
 and-right true b h = h
 and-right false b h = absurd (false≢true h)
+
+-- early returns: the second is reached where the first holds
+pub and-then : {a b c : Bool} → a ≡ true → b ≡ c → (a && b) ≡ c
+and-then {a} {b} h k = ap (λ (t : Bool). t && b) h ∙ k
 
 pub or-left : (a b : Bool) → (a || b) ≡ false → a ≡ false
 or-left true b h = absurd (true≢false h)

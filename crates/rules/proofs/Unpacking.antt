@@ -20,7 +20,7 @@ use Rattle.rules.specs.declared.Packed.the-variants.{Length, Denied}
 use Rattle.rules.specs.declared.Taken.{Taken}
 use Rattle.rules.specs.declared.Taken.the-variants.{Place, Unfit}
 use Rattle.rules.proofs.Fields.{bitsOf-length}
-use Rattle.rules.proofs.Bits.{drop-zeros}
+use Rattle.rules.proofs.Zeros.{drop-zeros}
 
 -- the bits that are left
 pub rest-length : (image : List ℕ) (at : ℕ) → length (drop at (bitsOf image)) ≡ length image * 8 - at

@@ -1,5 +1,4 @@
 // The assembler for C.
-use crate::numbers;
 use crate::told;
 ghost use mathlib.Core.Path.{_≡_};
 ghost use Rattle.sam_c.specs.Calls.{filled, assembleCall};

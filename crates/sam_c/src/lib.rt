@@ -2,7 +2,6 @@
 // another length than the call's is 31, and registers of another length than seven are 10, before anything else.
 mod assemble;
 mod list;
-mod numbers;
 mod pack;
 mod registers;
 mod reset;

@@ -1,5 +1,4 @@
 // The packer for C.
-use crate::numbers;
 use crate::told;
 ghost use mathlib.Core.Path.{_≡_};
 ghost use Rattle.rules.specs.Table.{program};

@@ -1,5 +1,4 @@
 // The reset for C.
-use crate::numbers;
 use crate::registers;
 ghost use mathlib.Core.Path.{_≡_};
 ghost use Rattle.rules.specs.Table.{program};

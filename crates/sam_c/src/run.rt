@@ -1,5 +1,4 @@
 // The run for C.
-use crate::numbers;
 use crate::registers;
 use crate::told;
 ghost use mathlib.Core.Path.{_≡_};

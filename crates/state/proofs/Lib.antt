@@ -1,4 +1,2 @@
-pub mod Filled
-pub mod Chain
 pub mod Parts
 pub mod Resets

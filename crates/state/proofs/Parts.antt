@@ -12,7 +12,7 @@ use Rattle.rules.specs.declared.Registers.{Registers}
 use Rattle.rules.proofs.Tests.{every-at, drop-next}
 use Rattle.rules.proofs.Fair.{Sound}
 use Rattle.rules.proofs.Effects.{sound-facts}
-use Rattle.state.proofs.Chain.{and-then}
+use Rattle.rules.proofs.Tests.{and-then}
 use Rattle.state.specs.Parts.{keptSizes, registersWithin, Held}
 
 -- ---- the loop over the cells: one cell more, and no cell left

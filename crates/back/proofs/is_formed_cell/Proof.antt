@@ -8,7 +8,7 @@ use lib.Dec.{eqb, leb, ltb}
 use Rattle.rules.specs.Places.{cellBits}
 use Rattle.rules.specs.Back.{cellTests}
 use Rattle.rules.proofs.Tests.{every-false}
-use Rattle.state.proofs.Chain.{and-then}
+use Rattle.rules.proofs.Tests.{and-then}
 use Rattle.back.proofs.is_formed_cell.Statement.{statement}
 use Rattle.back.proofs.is_formed_cell.Tie as tie
 

@@ -7,7 +7,7 @@ use borrow.Author.Tests.{lt-ltb, le-ltb, eq-eqb, ne-eqb}
 use lib.Dec.{eqb, ltb}
 use Rattle.rules.specs.Back.{stepTests}
 use Rattle.rules.proofs.Tests.{every-false}
-use Rattle.state.proofs.Chain.{and-then}
+use Rattle.rules.proofs.Tests.{and-then}
 use Rattle.back.proofs.is_formed_step.Statement.{statement}
 use Rattle.back.proofs.is_formed_step.Tie as tie
 

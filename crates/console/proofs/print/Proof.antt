@@ -25,6 +25,9 @@ enum-known-made-2 c = search needs
 text-number-requires : tie.Need-text-number-requires
 text-number-requires c κs = search needs
 
+cast-put-refused : tie.Need-cast-put-refused
+cast-put-refused c = search needs
+
 put-refused-requires : tie.Need-put-refused-requires
 put-refused-requires c κs = search needs
 
@@ -53,6 +56,7 @@ print-spec =
     put-run-requires
     enum-known-made-2
     text-number-requires
+    cast-put-refused
     put-refused-requires
     returns
     returns-2)

@@ -10,7 +10,7 @@ use lib.ListN.{replicate}
 use Rattle.rules.specs.Table.{program, soundTable}
 use Rattle.rules.specs.Image.{Filed}
 use Rattle.rules.specs.declared.Packed.the-variants.{Length}
-use Rattle.rules.proofs.Effects.{table-short, table-long}
+use Rattle.rules.proofs.Table.{table-short, table-long}
 use Rattle.rules.proofs.Packing.{pack-length, pack-broken, pack-done}
 use Rattle.image.proofs.pack.Statement.{statement}
 use Rattle.image.proofs.pack.Tie as tie

@@ -13,7 +13,7 @@ use Rattle.rules.specs.Listing.{Written, listing}
 use Rattle.rules.specs.Table.{program, soundTable}
 use Rattle.rules.specs.Sizes.{listingSize}
 use Rattle.digits.specs.Put.{Put}
-use Rattle.lister.proofs.Writing.{put-zeros}
+use Rattle.digits.proofs.Laws.{put-zeros}
 use Rattle.lister.proofs.list.Statement.{statement}
 use Rattle.lister.proofs.list.Tie as tie
 
@@ -59,7 +59,7 @@ returns-3 c =
     let e = list-told p (a .text .now) n s in
     let q = c .before .before .put-lines .ensures in
     let z : Put (replicate (length (a .text .now)) 0) (c .before .before .put-lines .last .1 .1 .0) 0 bs (c .before .before .put-lines .result) = rw (c .before .before .before .before .before .before .before .before .clear .ensures) at q in
-    let w = put-zeros (length (a .text .now)) (c .before .before .put-lines .result) (c .before .before .put-lines .last .1 .1 .0) bs (omega (arith, listing-fits p s, n)) z in (
+    let w = put-zeros {n = length (a .text .now)} (omega (arith, listing-fits p s, n)) z in (
       ap Told (q .length-told) ∙ sym (ap (λ (w : Written). w .answer) e),
       (rw n at w) ∙ sym (ap (λ (w : Written). w .bytes) e),
     )

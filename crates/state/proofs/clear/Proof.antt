@@ -1,19 +1,19 @@
 -- `state::clear` meets its contract. The loop's invariant: the places passed are zero. Assumes nothing.
 use Prim.Native.Nat.{_-_}
 use borrow.Author.Needs.{needs}
-use lib.ListN.{length, replicate}
-use Rattle.state.proofs.Filled.{Filled, filled-none, zeros-more, zeros-all}
+use lib.ListN.{length}
+use Rattle.rules.proofs.Stored.{Cleared, cleared-none, cleared-more, cleared-all}
 use Rattle.state.proofs.clear.Statement.{statement}
 use Rattle.state.proofs.clear.Tie as tie
 
 abbrev Inv-loop : tie.InvT-loop
-Inv-loop places₀ place₀ places place = Filled places₀ places (replicate (length places₀) 0) place
+Inv-loop places₀ place₀ places place = Cleared places₀ places place
 
 abbrev μ-loop : tie.MeasureT-loop
 μ-loop places₀ place₀ places place = length places₀ - place
 
 loop-holds : tie.Need-loop-holds Inv-loop μ-loop
-loop-holds c = filled-none
+loop-holds c = cleared-none _
 
 mul-places : tie.Need-mul-places Inv-loop μ-loop
 mul-places c = search needs
@@ -28,13 +28,13 @@ loop-less : tie.Need-loop-less Inv-loop μ-loop
 loop-less c = search needs
 
 loop-again : tie.Need-loop-again Inv-loop μ-loop
-loop-again c = zeros-more _ _ _ (c .before .loop .inv) (c .loop-test .taken)
+loop-again c = cleared-more _ _ _ (c .before .loop .inv) (c .loop-test .taken)
 
 same-length : tie.Need-same-length Inv-loop μ-loop
 same-length c = search needs
 
 returns : tie.Need-returns Inv-loop μ-loop
-returns c = zeros-all _ _ _ (c .before .loop .inv) (c .loop-test .left)
+returns c = cleared-all _ _ _ (c .before .loop .inv) (c .loop-test .left)
 
 pub clear-spec : {M : Type 1} → statement M
 clear-spec =

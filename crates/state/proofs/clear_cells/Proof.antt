@@ -3,19 +3,19 @@ use Prim.Native.Nat.{_-_}
 use mathlib.Core.Path.{_≡_}
 use native.Mathlib.Omega.{arith}
 use borrow.Author.Needs.{needs}
-use lib.ListN.{length, replicate}
-use Rattle.state.proofs.Filled.{Filled, filled-none, zeros-more, zeros-all}
+use lib.ListN.{length}
+use Rattle.rules.proofs.Stored.{Cleared, cleared-none, cleared-more, cleared-all}
 use Rattle.state.proofs.clear_cells.Statement.{statement}
 use Rattle.state.proofs.clear_cells.Tie as tie
 
 abbrev Inv-loop : tie.InvT-loop
-Inv-loop bits₀ tags₀ cell₀ bits tags cell = Filled bits₀ bits (replicate (length bits₀) 0) cell × Filled tags₀ tags (replicate (length tags₀) 0) cell
+Inv-loop bits₀ tags₀ cell₀ bits tags cell = Cleared bits₀ bits cell × Cleared tags₀ tags cell
 
 abbrev μ-loop : tie.MeasureT-loop
 μ-loop bits₀ tags₀ cell₀ bits tags cell = length bits₀ - cell
 
 loop-holds : tie.Need-loop-holds Inv-loop μ-loop
-loop-holds c = (filled-none, filled-none)
+loop-holds c = (cleared-none _, cleared-none _)
 
 mul-bits : tie.Need-mul-bits Inv-loop μ-loop
 mul-bits c = search needs
@@ -37,7 +37,7 @@ loop-again c =
     let l = c .before .loop in
     let test = c .loop-test .taken in
     let same : length (c .before .before .args .tags .now) ≡ length (c .before .before .args .bits .now) = c .before .before .pre in
-    (zeros-more _ _ _ (l .inv .0) test, zeros-more _ _ _ (l .inv .1) (omega (arith, test, l .inv .0 .len, l .inv .1 .len)))
+    (cleared-more _ _ _ (l .inv .0) test, cleared-more _ _ _ (l .inv .1) (omega (arith, test, l .inv .0 .len, l .inv .1 .len)))
 
 same-length : tie.Need-same-length Inv-loop μ-loop
 same-length c = search needs
@@ -50,7 +50,7 @@ returns c =
     let l = c .before .loop in
     let left = c .loop-test .left in
     let same : length (c .before .before .args .tags .now) ≡ length (c .before .before .args .bits .now) = c .before .before .pre in
-    (zeros-all _ _ _ (l .inv .0) left, zeros-all _ _ _ (l .inv .1) (omega (arith, left, l .inv .0 .len, l .inv .1 .len)))
+    (cleared-all _ _ _ (l .inv .0) left, cleared-all _ _ _ (l .inv .1) (omega (arith, left, l .inv .0 .len, l .inv .1 .len)))
 
 pub clear-cells-spec : {M : Type 1} → statement M
 clear-cells-spec =

@@ -3,7 +3,7 @@ use mathlib.Core.Path.{sym}
 use mathlib.Core.Bool.{and-true}
 use borrow.Author.Tests.{lt-ltb, le-ltb, le-leb, lt-leb}
 use Rattle.rules.proofs.Tests.{every-false}
-use Rattle.state.proofs.Chain.{and-then}
+use Rattle.rules.proofs.Tests.{and-then}
 use Rattle.state.specs.Parts.{registersWithin}
 use Rattle.state.proofs.has_registers_within.Statement.{statement}
 use Rattle.state.proofs.has_registers_within.Tie as tie

@@ -3,7 +3,7 @@ use mathlib.Core.Path.{sym}
 use mathlib.Core.Bool.{and-true}
 use borrow.Author.Tests.{le-leb, lt-leb}
 use Rattle.rules.proofs.Tests.{every-false}
-use Rattle.state.proofs.Chain.{and-then}
+use Rattle.rules.proofs.Tests.{and-then}
 use Rattle.state.specs.Parts.{startSizes}
 use Rattle.state.proofs.has_start_sizes.Statement.{statement}
 use Rattle.state.proofs.has_start_sizes.Tie as tie

@@ -18,11 +18,11 @@ put-cell-line-requires c κs = search needs
 
 array-share-prefix-made : tie.Need-array-share-prefix-made
 array-share-prefix-made c =
-    omega (arith, c .before .before .put-cell-line .kept .0, c .before .before .put-cell-line .ensures .length-told, law.cell-short (c .before .before .before .before .before .args .i) (c .before .before .before .before .before .args .bits) (c .before .before .before .before .before .args .tag))
+    omega (arith, c .before .before .put-cell-line .kept .0, c .before .before .put-cell-line .ensures .1)
 
 slice-aggregate-put-text : tie.Need-slice-aggregate-put-text
 slice-aggregate-put-text c =
-    sym (length-take-le (c .before .before .before .put-cell-line .result) (c .before .before .before .put-cell-line .last .0) (omega (arith, c .before .before .before .put-cell-line .kept .0, c .before .before .before .put-cell-line .ensures .length-told, law.cell-short (c .before .before .before .before .before .before .args .i) (c .before .before .before .before .before .before .args .bits) (c .before .before .before .before .before .before .args .tag))))
+    sym (length-take-le (c .before .before .before .put-cell-line .result) (c .before .before .before .put-cell-line .last .0) (omega (arith, c .before .before .before .put-cell-line .kept .0, c .before .before .before .put-cell-line .ensures .1)))
 
 put-text-requires : tie.Need-put-text-requires
 put-text-requires c κs = search needs
@@ -32,9 +32,9 @@ same-length c = search needs
 
 returns : tie.Need-returns
 returns c =
-    let t = cellLine (c .before .before .before .before .before .before .before .before .before .args .i) (record { bits = c .before .before .before .before .before .before .before .before .before .args .bits; tag = c .before .before .before .before .before .before .before .before .before .args .tag }) in
-    let h : length t ≤ 64 = omega (arith, law.cell-short (c .before .before .before .before .before .before .before .before .before .args .i) (c .before .before .before .before .before .before .before .before .before .args .bits) (c .before .before .before .before .before .before .before .before .before .args .tag)) in
-    rw (law.whole 64 (c .before .before .before .before .before .before .put-cell-line .result) (c .before .before .before .before .before .before .put-cell-line .last .0) t h (c .before .before .before .before .before .before .put-cell-line .ensures)) at (c .before .before .put-text .ensures)
+    let made = c .before .before .before .before .before .before .put-cell-line in
+    let h : length (cellLine (c .before .before .before .before .before .before .before .before .before .args .i) (record { bits = c .before .before .before .before .before .before .before .before .before .args .bits; tag = c .before .before .before .before .before .before .before .before .before .args .tag })) ≤ 64 = omega (arith, made .ensures .0 .length-told, made .ensures .1) in
+    rw (law.whole 64 _ _ _ h (made .ensures .0)) at (c .before .before .put-text .ensures)
 
 pub put-cell-spec : {M : Type 1} → statement M
 put-cell-spec =

@@ -1,5 +1,6 @@
 -- `put_cell_line` meets its contract: three words. Assumes nothing.
 use native.Mathlib.Omega.{arith}
+use Rattle.digits.proofs.Laws.{put-next}
 use Rattle.console.proofs.Writing as law
 use borrow.Author.Needs.{needs}
 use Rattle.console.proofs.lines.put_cell_line.Statement.{statement}
@@ -12,33 +13,21 @@ put-tag-requires : tie.Need-put-tag-requires
 put-tag-requires c κs = search needs
 
 add-b : tie.Need-add-b
-add-b c =
-    omega (arith, c .before .before .before .before .before .before .put-number .ensures .length-told, law.number-short (c .before .before .before .before .before .before .before .before .before .args .i) 32, c .before .before .put-tag .ensures .length-told, law.tag-short (c .before .before .before .before .before .before .before .before .before .args .tag) 32)
+add-b c = search needs
 
 put-value-requires : tie.Need-put-value-requires
-put-value-requires c κs =
-    omega (arith, c .before .before .before .before .before .before .before .put-number .ensures .length-told, law.number-short (c .before .before .before .before .before .before .before .before .before .before .args .i) 32, c .before .before .before .put-tag .ensures .length-told, law.tag-short (c .before .before .before .before .before .before .before .before .before .before .args .tag) 32)
+put-value-requires c κs = search needs
 
 add-result : tie.Need-add-result
-add-result c =
-    omega (arith, c .before .before .before .before .before .before .before .before .before .before .put-number .ensures .length-told, law.number-short (c .before .before .before .before .before .before .before .before .before .before .before .before .before .args .i) 32, c .before .before .before .before .before .before .put-tag .ensures .length-told, law.tag-short (c .before .before .before .before .before .before .before .before .before .before .before .before .before .args .tag) 32, c .before .before .put-value .ensures .length-told, law.value-short (c .before .before .before .before .before .before .before .before .before .before .before .before .before .args .bits) (c .before .before .before .before .before .before .before .before .before .before .before .before .before .args .tag) 10)
+add-result c = search needs
 
 same-length : tie.Need-same-length
 same-length c = search needs
 
 returns : tie.Need-returns
-returns c =
-    rw (law.cell-words (c .before .before .before .before .before .before .before .before .before .before .before .before .before .args .i) (c .before .before .before .before .before .before .before .before .before .before .before .before .before .args .bits) (c .before .before .before .before .before .before .before .before .before .before .before .before .before .args .tag))
-    (law.next (law.next (c .before .before .before .before .before .before .before .before .before .before .put-number .ensures) (c .before .before .before .before .before .before .put-tag .ensures)) (c .before .before .put-value .ensures))
+returns c = (rw law.cell-words (put-next (put-next (c .before .before .before .before .before .before .before .before .before .before .put-number .ensures .0) (c .before .before .before .before .before .before .put-tag .ensures .0)) (c .before .before .put-value .ensures .0)), omega arith)
 
 pub put-cell-line-spec : {M : Type 1} → statement M
 put-cell-line-spec =
     tie.close
-    (tie.spec
-    put-number-requires
-    put-tag-requires
-    add-b
-    put-value-requires
-    add-result
-    same-length
-    returns)
+    (tie.spec put-number-requires put-tag-requires add-b put-value-requires add-result same-length returns)

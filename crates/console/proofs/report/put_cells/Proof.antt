@@ -8,6 +8,7 @@ use borrow.Author.Needs.{needs}
 use Rattle.rules.specs.State.{memory}
 use Rattle.rules.specs.Console.{cellLines}
 use Rattle.digits.specs.Put.{Put}
+use Rattle.digits.proofs.Laws.{put-append}
 use Rattle.console.proofs.Writing as law
 use Rattle.console.proofs.Reported.{cells-none, cells-next}
 use Rattle.console.proofs.report.put_cells.Statement.{statement}
@@ -64,7 +65,7 @@ loop-again c =
       omega arith,
       omega (arith, c .before .before .put-cell .ensures .length-told, law.cell-short (c .before .before .before .before .before .before .before .loop .i) (getD (c .before .before .before .before .before .before .before .before .before .before .before .args .bits .now) (c .before .before .before .before .before .before .before .loop .i) 0) (getD (c .before .before .before .before .before .before .before .before .before .before .before .args .tags .now) (c .before .before .before .before .before .before .before .loop .i) 0)),
       c .before .before .put-cell .kept .0 ∙ v .2,
-      rw (cells-next (c .before .before .before .before .before .before .before .before .before .before .before .args .bits .now) (c .before .before .before .before .before .before .before .before .before .before .before .args .tags .now) (c .before .before .before .before .before .before .before .loop .i)) (law.after (v .3) (c .before .before .put-cell .ensures)),
+      rw (cells-next (c .before .before .before .before .before .before .before .before .before .before .before .args .bits .now) (c .before .before .before .before .before .before .before .before .before .before .before .args .tags .now) (c .before .before .before .before .before .before .before .loop .i)) (put-append (v .3) (c .before .before .put-cell .ensures)),
     )
 
 same-length : tie.Need-same-length Inv-loop μ-loop
@@ -74,7 +75,7 @@ same-length c =
 returns : tie.Need-returns Inv-loop μ-loop
 returns c =
     let e : c .before .loop .i ≡ c .before .before .before .before .before .args .sp = omega arith in
-    rw e at (c .before .loop .inv .3)
+    (rw e at (c .before .loop .inv .3), rw e at (c .before .loop .inv .1))
 
 pub put-cells-spec : {M : Type 1} → statement M
 put-cells-spec =

@@ -1,10 +1,7 @@
 -- `put_number` meets its contract: a number of at most ten digits, and a byte after it. Assumes nothing.
-use Prim.Native.Nat.{_+_}
-use mathlib.Core.Path.{refl}
 use native.Mathlib.Omega.{arith}
-use Rattle.rules.specs.Listing.{decimal}
 use Rattle.rules.proofs.Texts.{length-decimal}
-use Rattle.lister.proofs.Writing.{put-last}
+use Rattle.digits.proofs.Laws.{put-last}
 use borrow.Author.Needs.{needs}
 use Rattle.console.proofs.words.put_number.Statement.{statement}
 use Rattle.console.proofs.words.put_number.Tie as tie
@@ -16,16 +13,18 @@ put-byte-requires : tie.Need-put-byte-requires
 put-byte-requires c κs = search needs
 
 add-result : tie.Need-add-result
-add-result c =
-    omega (arith, c .before .before .before .before .before .before .put-decimal .ensures .length-told, length-decimal 9 (c .before .before .before .before .before .before .before .before .before .args .n))
+add-result c = omega (arith, c .before .before .before .before .before .before .put-decimal .ensures .length-told, length-decimal 9 (c .before .before .before .before .before .before .before .before .before .args .n))
 
 same-length : tie.Need-same-length
 same-length c = search needs
 
 returns : tie.Need-returns
-returns c =
-    put-last (c .before .before .before .before .before .before .before .before .before .args .out .now) (c .before .before .before .before .before .before .put-decimal .last .0) (c .before .before .put-byte .last .0) (c .before .before .before .before .before .before .before .before .before .args .at) (c .before .before .before .before .before .before .before .before .before .args .at + c .before .before .before .before .before .before .put-decimal .result) (c .before .before .before .before .before .before .before .before .before .args .after) (c .before .before .before .before .before .before .put-decimal .result) (decimal 9 (c .before .before .before .before .before .before .before .before .before .args .n)) refl (c .before .before .before .before .before .before .put-decimal .ensures) (c .before .before .put-byte .ensures)
+returns c = (
+  put-last _ (c .before .before .before .before .before .before .put-decimal .ensures) (c .before .before .put-byte .ensures),
+  omega (arith, c .before .before .before .before .before .before .put-decimal .ensures .length-told, length-decimal 9 (c .before .before .before .before .before .before .before .before .before .args .n)),
+)
 
 pub put-number-spec : {M : Type 1} → statement M
 put-number-spec =
-    tie.close (tie.spec put-decimal-requires put-byte-requires add-result same-length returns)
+    tie.close
+    (tie.spec put-decimal-requires put-byte-requires add-result same-length returns)

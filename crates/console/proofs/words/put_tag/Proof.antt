@@ -21,7 +21,7 @@ same-length c = search needs
 returns : tie.Need-returns
 unfolding text
 returns c =
-    rw (law.tag-int (c .before .before .before .before .before .before .before .args .tag) (c .before .before .before .before .before .if1 .taken)) (c .before .before .put-word .ensures)
+    (rw (law.tag-int (c .before .before .before .before .before .before .before .args .tag) (c .before .before .before .before .before .if1 .taken)) (c .before .before .put-word .ensures .0), omega arith)
 
 slice-aggregate-put-word-2 : tie.Need-slice-aggregate-put-word-2
 slice-aggregate-put-word-2 c = search needs
@@ -35,7 +35,7 @@ same-length-2 c = search needs
 returns-2 : tie.Need-returns-2
 unfolding text
 returns-2 c =
-    rw (law.tag-float (c .before .before .before .before .before .before .before .before .args .tag) (c .before .before .before .before .before .if2 .taken)) (c .before .before .put-word2 .ensures)
+    (rw (law.tag-float (c .before .before .before .before .before .before .before .before .args .tag) (c .before .before .before .before .before .if2 .taken)) (c .before .before .put-word2 .ensures .0), omega arith)
 
 slice-aggregate-put-word-3 : tie.Need-slice-aggregate-put-word-3
 slice-aggregate-put-word-3 c = search needs
@@ -49,7 +49,7 @@ same-length-3 c = search needs
 returns-3 : tie.Need-returns-3
 unfolding text
 returns-3 c =
-    rw (law.tag-ma (c .before .before .before .before .before .before .before .before .before .args .tag) (c .before .before .before .before .before .if3 .taken)) (c .before .before .put-word3 .ensures)
+    (rw (law.tag-ma (c .before .before .before .before .before .before .before .before .before .args .tag) (c .before .before .before .before .before .if3 .taken)) (c .before .before .put-word3 .ensures .0), omega arith)
 
 slice-aggregate-put-word-4 : tie.Need-slice-aggregate-put-word-4
 slice-aggregate-put-word-4 c = search needs
@@ -63,7 +63,7 @@ same-length-4 c = search needs
 returns-4 : tie.Need-returns-4
 unfolding text
 returns-4 c =
-    rw (law.tag-pa (c .before .before .before .before .before .before .before .before .before .before .args .tag) (c .before .before .before .before .before .if4 .taken)) (c .before .before .put-word4 .ensures)
+    (rw (law.tag-pa (c .before .before .before .before .before .before .before .before .before .before .args .tag) (c .before .before .before .before .before .if4 .taken)) (c .before .before .put-word4 .ensures .0), omega arith)
 
 put-byte-requires : tie.Need-put-byte-requires
 put-byte-requires c κs = search needs
@@ -74,7 +74,7 @@ same-length-5 c = search needs
 returns-5 : tie.Need-returns-5
 returns-5 c =
     let e : c .before .before .before .before .before .before .before .before .before .args .at + 0 ≡ c .before .before .before .before .before .before .before .before .before .args .at = omega arith in
-    rw (law.tag-none (c .before .before .before .before .before .before .before .before .before .args .tag) (omega arith)) (record { length-told = refl; written = rw e at (c .before .before .put-byte .ensures) })
+    (rw (law.tag-none (c .before .before .before .before .before .before .before .before .before .args .tag) (omega arith)) (record { length-told = refl; written = rw e at (c .before .before .put-byte .ensures) }), omega arith)
 
 pub put-tag-spec : {M : Type 1} → statement M
 put-tag-spec =

@@ -1,50 +1,37 @@
--- The loop's invariant: zeros so far, then what was there. Assumes nothing.
-use Prim.Native.Nat.{ℕ, _-_, _≤_}
-use mathlib.Core.Path.{_≡_, refl, ap, ap₂, _∙_}
-use mathlib.Core.List.{List, _++_, append-nil}
-use native.Mathlib.Omega.{arith}
-use borrow.Author.Fill.{fill-more}
-use denote.Ref.{now}
-use lib.ListN.{length, drop, set, replicate, length-set, drop-of-length-le}
+-- `clear_bytes` meets its contract. The loop's invariant: the bytes passed are zero. Assumes nothing.
+use Prim.Native.Nat.{_-_}
+use borrow.Author.Needs.{needs}
+use lib.ListN.{length}
+use Rattle.rules.proofs.Stored.{Cleared, cleared-none, cleared-more, cleared-all}
 use Rattle.image.proofs.writing.clear_bytes.Statement.{statement}
 use Rattle.image.proofs.writing.clear_bytes.Tie as tie
 
 abbrev Inv-loop : tie.InvT-loop
-Inv-loop image₀ i₀ image i = (i ≤ length image₀) × (length image ≡ length image₀) × (image ≡ replicate i 0 ++ drop i image₀)
+Inv-loop image₀ i₀ image i = Cleared image₀ image i
 
 abbrev μ-loop : tie.MeasureT-loop
 μ-loop image₀ i₀ image i = length image₀ - i
 
 loop-holds : tie.Need-loop-holds Inv-loop μ-loop
-loop-holds c = (omega arith, refl, refl)
+loop-holds c = cleared-none _
 
 slice-write-image : tie.Need-slice-write-image Inv-loop μ-loop
-slice-write-image c = omega arith
+slice-write-image c = search needs
 
 add-i : tie.Need-add-i Inv-loop μ-loop
-add-i c = omega arith
+add-i c = search needs
 
 loop-less : tie.Need-loop-less Inv-loop μ-loop
-loop-less c = omega arith
+loop-less c = search needs
 
 loop-again : tie.Need-loop-again Inv-loop μ-loop
-loop-again c =
-    let o = now (c .before .before .args .image) in
-    let t = c .before .loop in (
-      omega arith,
-      length-set (t .image) (t .i) 0 ∙ t .inv .1,
-      ap (λ (l : List ℕ). set l (t .i) 0) (t .inv .2) ∙ fill-more (t .i) 0 o (omega arith),
-    )
+loop-again c = cleared-more _ _ _ (c .before .loop .inv) (c .loop-test .taken)
 
 same-length : tie.Need-same-length Inv-loop μ-loop
-same-length c = c .before .loop .inv .1
+same-length c = search needs
 
 returns : tie.Need-returns Inv-loop μ-loop
-returns c =
-    let o = now (c .before .before .args .image) in
-    let t = c .before .loop in
-    let e : t .i ≡ length o = omega arith in
-    t .inv .2 ∙ ap₂ (λ (a : ℕ) (l : List ℕ). replicate a 0 ++ l) e (drop-of-length-le o {i = t .i} (omega arith)) ∙ append-nil (replicate (length o) 0)
+returns c = cleared-all _ _ _ (c .before .loop .inv) (c .loop-test .left)
 
 pub clear-bytes-spec : {M : Type 1} → statement M
 clear-bytes-spec =

@@ -1,12 +1,9 @@
 -- `put_number` meets its contract: a space in front of a signed number. Assumes nothing.
-use Prim.Native.Nat.{_-_, _+_}
 use mathlib.Core.Path.{refl}
 use native.Mathlib.Omega.{arith}
 use borrow.Author.Needs.{needs}
 use Rattle.rules.proofs.Texts as texts
-use Rattle.rules.specs.Listing.{signedText}
-use Rattle.rules.specs.Bytes.{space}
-use Rattle.lister.proofs.Writing as law
+use Rattle.digits.proofs.Laws.{put-front}
 use Rattle.lister.proofs.line.put_number.Statement.{statement}
 use Rattle.lister.proofs.line.put_number.Tie as tie
 
@@ -28,10 +25,7 @@ same-length c = search needs
 
 returns : tie.Need-returns
 returns c =
-    let a = c .before .before .before .before .before .before .before .before .before .args in
-    law.put-front (a .out .now) (c .before .before .before .before .before .before .put-byte .last .0) (c .before .before .put-signed .last .0) (a .at) (a .at + 0) (a .at + 1) space (c .before .before .put-signed .result) (signedText (a .v)) (omega arith) refl
-    (c .before .before .before .before .before .before .put-byte .ensures)
-    (c .before .before .put-signed .ensures)
+    put-front (c .before .before .before .before .before .before .put-byte .ensures) (c .before .before .put-signed .ensures) (omega arith) refl
 
 pub put-number-spec : {M : Type 1} → statement M
 put-number-spec =

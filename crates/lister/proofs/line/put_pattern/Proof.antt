@@ -1,13 +1,10 @@
 -- `put_pattern` meets its contract: a space and a `#` in front of eight digits. Assumes nothing.
-use Prim.Native.Nat.{_-_, _+_}
-use mathlib.Core.List.{_∷_}
+use Prim.Native.Nat.{_+_}
 use mathlib.Core.Path.{_≡_, refl}
 use native.Mathlib.Omega.{arith}
 use borrow.Author.Needs.{needs}
 use Rattle.rules.proofs.Texts as texts
-use Rattle.rules.specs.Listing.{hex}
-use Rattle.rules.specs.Bytes.{space, hash}
-use Rattle.lister.proofs.Writing as law
+use Rattle.digits.proofs.Laws.{put-front}
 use Rattle.lister.proofs.line.put_pattern.Statement.{statement}
 use Rattle.lister.proofs.line.put_pattern.Tie as tie
 
@@ -32,15 +29,9 @@ same-length c = search needs
 
 returns : tie.Need-returns
 returns c =
-    let a = c .before .before .before .before .before .before .before .before .before .before .before .before .before .args in
-    let r = c .before .before .put-hex .result in
-    let e : r + 1 + 1 ≡ r + 2 = omega arith in
-    rw e at
-    (law.put-front (a .out .now) (c .before .before .before .before .before .before .before .before .before .before .put-byte .last .0) (c .before .before .put-hex .last .0) (a .at) (a .at + 0) (a .at + 1) space (r + 1) (hash ∷ hex 8 (a .v)) (omega arith) refl
-    (c .before .before .before .before .before .before .before .before .before .before .put-byte .ensures)
-    (law.put-front (c .before .before .before .before .before .before .before .before .before .before .put-byte .last .0) (c .before .before .before .before .before .before .put-byte2 .last .0) (c .before .before .put-hex .last .0) (a .at + 1) (a .at + 1) (a .at + 2) hash r (hex 8 (a .v)) refl (omega arith)
-    (c .before .before .before .before .before .before .put-byte2 .ensures)
-    (c .before .before .put-hex .ensures)))
+    let e : c .before .before .put-hex .result + 2 ≡ c .before .before .put-hex .result + 1 + 1 = omega arith in
+    rw e
+    (put-front (c .before .before .before .before .before .before .before .before .before .before .put-byte .ensures) (put-front (c .before .before .before .before .before .before .put-byte2 .ensures) (c .before .before .put-hex .ensures) refl (omega arith)) (omega arith) refl)
 
 pub put-pattern-spec : {M : Type 1} → statement M
 put-pattern-spec =

@@ -2,14 +2,14 @@
 use Prim.Native.Nat.{_≤_, _-_, _*_}
 use mathlib.Core.Path.{_≡_, refl, _∙_}
 use native.Mathlib.Omega.{arith}
-use lib.ListN.{length, take, getD}
+use lib.ListN.{length, take}
 use borrow.Author.Needs.{needs}
 use Rattle.rules.proofs.Lines.{line-short, listing-none, listing-next}
-use Rattle.rules.proofs.Effects.{table-short, table-long}
+use Rattle.rules.proofs.Table.{table-short, table-long}
 use Rattle.rules.specs.Table.{program}
-use Rattle.rules.specs.Listing.{lineOf, listing}
+use Rattle.rules.specs.Listing.{listing}
 use Rattle.digits.specs.Put.{Put}
-use Rattle.lister.proofs.Writing as law
+use Rattle.digits.proofs.Laws.{put-next}
 use Rattle.lister.proofs.lines.put_lines.Statement.{statement}
 use Rattle.lister.proofs.lines.put_lines.Tie as tie
 
@@ -41,11 +41,12 @@ put-line-requires c κs =
 add-at : tie.Need-add-at Inv-loop μ-loop
 add-at c =
     let a = c .before .before .before .before .before .before .before .before .before .args in
-    omega (arith, table-short (program (c .before .before .before .before .before .before .before .before .before .args .table .now) (c .before .before .before .before .before .before .before .before .before .args .count)) (c .before .before .before .before .before .before .before .before .before .pre), table-long (program (c .before .before .before .before .before .before .before .before .before .args .table .now) (c .before .before .before .before .before .before .before .before .before .args .count)) (c .before .before .before .before .before .before .before .before .before .pre), c .before .before .put-line .ensures .length-told, line-short (program (a .table .now) (a .count)) (c .before .before .before .before .before .before .before .before .before .pre) (c .before .before .before .before .before .before .loop .i) (c .before .before .before .before .before .loop-test .taken))
+    omega (arith, table-short (program (a .table .now) (a .count)) (c .before .before .before .before .before .before .before .before .before .pre), table-long (program (a .table .now) (a .count)) (c .before .before .before .before .before .before .before .before .before .pre), c .before .before .put-line .ensures .length-told, line-short (program (a .table .now) (a .count)) (c .before .before .before .before .before .before .before .before .before .pre) (c .before .before .before .before .before .before .loop .i) (c .before .before .before .before .before .loop-test .taken))
 
 add-i : tie.Need-add-i Inv-loop μ-loop
 add-i c =
-    omega (arith, table-short (program (c .before .before .before .before .before .before .before .before .before .args .table .now) (c .before .before .before .before .before .before .before .before .before .args .count)) (c .before .before .before .before .before .before .before .before .before .pre), table-long (program (c .before .before .before .before .before .before .before .before .before .args .table .now) (c .before .before .before .before .before .before .before .before .before .args .count)) (c .before .before .before .before .before .before .before .before .before .pre))
+    let a = c .before .before .before .before .before .before .before .before .before .args in
+    omega (arith, table-short (program (a .table .now) (a .count)) (c .before .before .before .before .before .before .before .before .before .pre), table-long (program (a .table .now) (a .count)) (c .before .before .before .before .before .before .before .before .before .pre))
 
 loop-less : tie.Need-loop-less Inv-loop μ-loop
 loop-less c =
@@ -56,12 +57,12 @@ loop-again c =
     let a = c .before .before .before .before .before .before .before .before .before .args in
     let v = c .before .before .before .before .before .before .loop .inv in
     let i = c .before .before .before .before .before .before .loop .i in
-    let l : i ≤ length (a .table .now) - 1 = omega (arith, table-short (program (c .before .before .before .before .before .before .before .before .before .args .table .now) (c .before .before .before .before .before .before .before .before .before .args .count)) (c .before .before .before .before .before .before .before .before .before .pre), table-long (program (c .before .before .before .before .before .before .before .before .before .args .table .now) (c .before .before .before .before .before .before .before .before .before .args .count)) (c .before .before .before .before .before .before .before .before .before .pre)) in (
+    let l : i ≤ length (a .table .now) - 1 = omega (arith, table-short (program (a .table .now) (a .count)) (c .before .before .before .before .before .before .before .before .before .pre), table-long (program (a .table .now) (a .count)) (c .before .before .before .before .before .before .before .before .before .pre)) in (
       omega arith,
       omega (arith, c .before .before .put-line .ensures .length-told, line-short (program (a .table .now) (a .count)) (c .before .before .before .before .before .before .before .before .before .pre) i (c .before .before .before .before .before .loop-test .taken)),
       c .before .before .put-line .kept .0 ∙ v .2,
-      rw (listing-next (a .table .now) i (omega (arith, table-short (program (c .before .before .before .before .before .before .before .before .before .args .table .now) (c .before .before .before .before .before .before .before .before .before .args .count)) (c .before .before .before .before .before .before .before .before .before .pre), table-long (program (c .before .before .before .before .before .before .before .before .before .args .table .now) (c .before .before .before .before .before .before .before .before .before .args .count)) (c .before .before .before .before .before .before .before .before .before .pre))))
-          (law.put-next (a .out .now) (c .before .before .before .before .before .before .loop .out) (c .before .before .put-line .last .0) (listing (take i (a .table .now))) (lineOf (getD (a .table .now) i 0)) (c .before .before .before .before .before .before .loop .at) (c .before .before .put-line .result) (v .3) (c .before .before .put-line .ensures)),
+      rw (listing-next (a .table .now) i (omega (arith, table-short (program (a .table .now) (a .count)) (c .before .before .before .before .before .before .before .before .before .pre), table-long (program (a .table .now) (a .count)) (c .before .before .before .before .before .before .before .before .before .pre))))
+          (put-next (v .3) (c .before .before .put-line .ensures)),
     )
 
 same-length : tie.Need-same-length Inv-loop μ-loop

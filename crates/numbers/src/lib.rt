@@ -1,4 +1,4 @@
-// The number of document 01, and the values told, that a refusal or a call's answer stands for.
+// "Numbers given back": the number that a refusal or a call's answer stands for, and the values that it tells.
 use rules::Assembled;
 use rules::Begun;
 use rules::Ending;
@@ -11,8 +11,8 @@ use rules::TextRefusal;
 ghost use mathlib.Core.Path.{_≡_};
 ghost use Rattle.rules.specs.Numbers.{machineNumber, textNumber, imageNumber, numberOfReset, numberOfStep, numberOfEnding, numberOfAssembled, lengthOfAssembled, placeOfAssembled, numberOfListed, lengthOfListed, numberOfPacked, lengthOfPacked};
 
-// 1 to 11.
-pub(crate) fn machine_number(e: MachineRefusal) -> u32
+// The number of a refusal of the machine: 1 to 11.
+pub fn machine_number(e: MachineRefusal) -> u32
     ensures { λ r. ⌜ r ≡ machineNumber e ⌝ }
 {
     match e {
@@ -30,8 +30,8 @@ pub(crate) fn machine_number(e: MachineRefusal) -> u32
     }
 }
 
-// 10, and 21 to 31.
-pub(crate) fn text_number(e: TextRefusal) -> u32
+// The number of a refusal of the assembler or the lister: 10, and 21 to 31.
+pub fn text_number(e: TextRefusal) -> u32
     ensures { λ r. ⌜ r ≡ textNumber e ⌝ }
 {
     match e {
@@ -50,8 +50,8 @@ pub(crate) fn text_number(e: TextRefusal) -> u32
     }
 }
 
-// 10, 31, and 41 to 45.
-pub(crate) fn image_number(e: ImageRefusal) -> u32
+// The number of a refusal of the packer or the unpacker: 10, 31, and 41 to 45.
+pub fn image_number(e: ImageRefusal) -> u32
     ensures { λ r. ⌜ r ≡ imageNumber e ⌝ }
 {
     match e {
@@ -66,7 +66,7 @@ pub(crate) fn image_number(e: ImageRefusal) -> u32
 }
 
 // The number of a reset.
-pub(crate) fn reset_number(begun: Begun) -> u32
+pub fn reset_number(begun: Begun) -> u32
     ensures { λ r. ⌜ r ≡ numberOfReset begun ⌝ }
 {
     match begun {
@@ -76,7 +76,7 @@ pub(crate) fn reset_number(begun: Begun) -> u32
 }
 
 // The number of a step and of a step-back.
-pub(crate) fn step_number(step: Step) -> u32
+pub fn step_number(step: Step) -> u32
     ensures { λ r. ⌜ r ≡ numberOfStep step ⌝ }
 {
     match step {
@@ -86,7 +86,7 @@ pub(crate) fn step_number(step: Step) -> u32
 }
 
 // The number of a run's ending.
-pub(crate) fn ending_number(ending: Ending) -> u32
+pub fn ending_number(ending: Ending) -> u32
     ensures { λ r. ⌜ r ≡ numberOfEnding ending ⌝ }
 {
     match ending {
@@ -97,7 +97,7 @@ pub(crate) fn ending_number(ending: Ending) -> u32
 }
 
 // The number, the length and the place of an assembler's answer.
-pub(crate) fn assembled_number(assembled: Assembled) -> u32
+pub fn assembled_number(assembled: Assembled) -> u32
     ensures { λ r. ⌜ r ≡ numberOfAssembled assembled ⌝ }
 {
     match assembled {
@@ -106,7 +106,7 @@ pub(crate) fn assembled_number(assembled: Assembled) -> u32
     }
 }
 
-pub(crate) fn assembled_length(assembled: Assembled) -> usize
+pub fn assembled_length(assembled: Assembled) -> usize
     ensures { λ r. ⌜ r ≡ lengthOfAssembled assembled ⌝ }
 {
     match assembled {
@@ -115,7 +115,7 @@ pub(crate) fn assembled_length(assembled: Assembled) -> usize
     }
 }
 
-pub(crate) fn assembled_place(assembled: Assembled) -> usize
+pub fn assembled_place(assembled: Assembled) -> usize
     ensures { λ r. ⌜ r ≡ placeOfAssembled assembled ⌝ }
 {
     match assembled {
@@ -125,7 +125,7 @@ pub(crate) fn assembled_place(assembled: Assembled) -> usize
 }
 
 // The number and the length of a lister's answer.
-pub(crate) fn listed_number(listed: Listed) -> u32
+pub fn listed_number(listed: Listed) -> u32
     ensures { λ r. ⌜ r ≡ numberOfListed listed ⌝ }
 {
     match listed {
@@ -134,7 +134,7 @@ pub(crate) fn listed_number(listed: Listed) -> u32
     }
 }
 
-pub(crate) fn listed_length(listed: Listed) -> usize
+pub fn listed_length(listed: Listed) -> usize
     ensures { λ r. ⌜ r ≡ lengthOfListed listed ⌝ }
 {
     match listed {
@@ -144,7 +144,7 @@ pub(crate) fn listed_length(listed: Listed) -> usize
 }
 
 // The number and the length of a packer's or an unpacker's answer.
-pub(crate) fn packed_number(packed: Packed) -> u32
+pub fn packed_number(packed: Packed) -> u32
     ensures { λ r. ⌜ r ≡ numberOfPacked packed ⌝ }
 {
     match packed {
@@ -153,7 +153,7 @@ pub(crate) fn packed_number(packed: Packed) -> u32
     }
 }
 
-pub(crate) fn packed_length(packed: Packed) -> usize
+pub fn packed_length(packed: Packed) -> usize
     ensures { λ r. ⌜ r ≡ lengthOfPacked packed ⌝ }
 {
     match packed {
