@@ -15,14 +15,10 @@ use Rattle.rules.specs.Commit.{block, cellPlaces, usedAfter, historyAfter, room
 use Rattle.rules.specs.declared.Registers.{Registers}
 use Rattle.rules.specs.declared.Effect.{Effect}
 use Rattle.rules.proofs.Sound.{length-places}
+use Rattle.rules.proofs.Zeros.{take-zeros}
 use Rattle.rules.proofs.Splice.{length-part, splice-beside, splice-none, sets-splice}
 
 -- ---- the written cells: none, one, or more
-
-take-zeros : (n m : ℕ) → n ≤ m → _≡_ {A = List ℕ} (take n (replicate m 0)) (replicate n 0)
-take-zeros zero m h = refl
-take-zeros (suc n) zero h = absurd (not-suc-le-zero h)
-take-zeros (suc n) (suc m) h = ap (λ (l : List ℕ). 0 ∷ l) (take-zeros n m (le-of-suc-le-suc h))
 
 block-more : (n x y : ℕ) → 2 ≤ n → block n x y ≡ x ∷ y ∷ replicate (n - 2) 0
 block-more zero x y h = absurd (not-suc-le-zero h)

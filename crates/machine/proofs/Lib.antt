@@ -1,4 +1,3 @@
-pub mod Stored
 pub mod Blocks
 pub mod Signed
 pub mod Reach

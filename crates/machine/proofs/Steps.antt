@@ -24,7 +24,8 @@ use Rattle.rules.specs.declared.MachineRefusal.the-variants.{AlreadyHalted, AtE
 use Rattle.rules.specs.declared.Step.{Step}
 use Rattle.rules.specs.declared.Step.the-variants.{Next, Refused}
 use Rattle.rules.proofs.Fair.{Sound}
-use Rattle.rules.proofs.Effects.{sound-facts, fair-place, place-sound, table-short, table-long}
+use Rattle.rules.proofs.Effects.{sound-facts, fair-place}
+use Rattle.rules.proofs.Table.{table-short, table-long, place-sound}
 use Rattle.rules.proofs.Tests.{and-left}
 use Rattle.rules.proofs.Sound.{step-plain, sound-step}
 use Rattle.state.specs.Outcomes.{stepped}

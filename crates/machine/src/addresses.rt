@@ -19,17 +19,13 @@ use rules::Cell;
 use rules::MemoryAddress;
 use rules::Registers;
 use rules::tags;
-
-// The least bits that stand for a number below 0, and those of -1.
-const NEGATIVE: u32 = 0x8000_0000;
-
-const MINUS_ONE: u32 = 0xffff_ffff;
+use rules::words;
 
 // Whether the bits are an address at least 0 and below the limit.
 pub(crate) fn inside(bits: u32, limit: usize) -> bool
     ensures { λ b. ⌜ b ≡ inside (signed bits) limit ⌝ }
 {
-    if NEGATIVE <= bits {
+    if words::LOWEST <= bits {
         return false;
     }
     (bits as usize) < limit
@@ -39,7 +35,7 @@ pub(crate) fn inside(bits: u32, limit: usize) -> bool
 pub(crate) fn memory_address(bits: u32) -> MemoryAddress
     ensures { λ a. ⌜ a ≡ memoryAddress (signed bits) ⌝ }
 {
-    if NEGATIVE <= bits {
+    if words::LOWEST <= bits {
         return MemoryAddress(0);
     }
     MemoryAddress(bits as usize)
@@ -56,10 +52,10 @@ pub(crate) fn moved_by(base: usize, offset: u32) -> Reach
     requires { ⌜ base < 65536 ⌝ }
     ensures { λ x. ⌜ x ≡ reachOf (pos base +ℤ signed offset) ⌝ }
 {
-    if offset < NEGATIVE {
+    if offset < words::LOWEST {
         return Reach::To(MemoryAddress(base + offset as usize));
     }
-    let back = (MINUS_ONE - offset) as usize + 1;
+    let back = (words::MINUS_ONE - offset) as usize + 1;
     if base < back {
         return Reach::Below;
     }

@@ -32,7 +32,6 @@ use Rattle.rules.specs.declared.Decision.the-variants.{Does, Refuses}
 use Rattle.rules.specs.declared.MachineRefusal.{MachineRefusal}
 use Rattle.rules.specs.declared.MachineRefusal.the-variants.{TooFewValues}
 use Rattle.rules.proofs.Tests.{and-left, and-right, every-at}
-pub use Rattle.rules.proofs.Table.{table-short, table-long}
 use Rattle.rules.proofs.Table.{place-sound}
 use Rattle.rules.proofs.Fair.{FairCell, FairCells, Sound, Going, Fair}
 

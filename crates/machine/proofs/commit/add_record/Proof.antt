@@ -7,7 +7,7 @@ use borrow.Author.Needs.{needs}
 use lib.ListN.{length}
 use Rattle.rules.specs.Lists.{part, splice}
 use Rattle.rules.specs.Commit.{cellPlaces}
-use Rattle.machine.proofs.Stored.{Stored, stored-none, stored-more, stored-all}
+use Rattle.rules.proofs.Stored.{Stored, stored-none, stored-more, stored-all}
 use Rattle.machine.proofs.Blocks.{kept-length, kept-at, record-ends}
 use Rattle.machine.proofs.commit.add_record.Statement.{statement}
 use Rattle.machine.proofs.commit.add_record.Tie as tie

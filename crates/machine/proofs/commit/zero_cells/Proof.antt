@@ -4,7 +4,7 @@ use mathlib.Core.Path.{sym}
 use native.Mathlib.Omega.{arith}
 use borrow.Author.Needs.{needs}
 use lib.ListN.{length, replicate, length-replicate, getD-replicate}
-use Rattle.machine.proofs.Stored.{Stored, stored-none, stored-more, stored-all}
+use Rattle.rules.proofs.Stored.{Stored, stored-none, stored-more, stored-all}
 use Rattle.machine.proofs.commit.zero_cells.Statement.{statement}
 use Rattle.machine.proofs.commit.zero_cells.Tie as tie
 
