@@ -249,17 +249,6 @@ def broken_case(chooser, script):
         any_call(chooser, lent)
 
 
-def plain_case(chooser, script):
-    """The same for the plain C run, which the speeds are measured against."""
-    program = made_program(chooser)
-    state = worked_state(chooser, program)
-    if chooser.randrange(3) == 0:
-        chooser.choice(BREAKS)(chooser, program, state)
-    lent = LentMachine(script, program, state)
-    for _ in range(6):
-        lent.run(chooser.choice([0, 1, 2, 5, 200, 1000, 1000001]), chooser.choice([1] * 20 + [2]), word="plain")
-
-
 # ---- one instruction at a time
 
 
@@ -288,8 +277,8 @@ def step_number(program, state):
     return sam.step(program, copy)
 
 
-def instruction_case(chooser, script):
-    """One instruction on a small stack: most often one that it takes, so that its results are compared."""
+def any_single(chooser):
+    """One instruction and a small stack: most often one that it takes, so that its results are compared."""
     code = chooser.randrange(len(NAMES))
     table = [0] * PLACES
     number, length, _ = sam.assemble((NAMES[code] + any_operand(chooser, KINDS[code], 1) + " STOP").encode(), table)
@@ -300,9 +289,35 @@ def instruction_case(chooser, script):
         if step_number(program, state) not in (3, 4):
             break
         state = any_small_state(chooser)
-    lent = LentMachine(script, program, state)
+    return program, state
+
+
+def instruction_case(chooser, script):
+    lent = LentMachine(script, *any_single(chooser))
     lent.step()
     lent.back()
+
+
+# ---- the direct run in C, which the speeds are measured against
+
+
+def plain_series(chooser, script):
+    """Runs of a program, from a state that may be broken."""
+    program = made_program(chooser)
+    state = worked_state(chooser, program)
+    if chooser.randrange(3) == 0:
+        chooser.choice(BREAKS)(chooser, program, state)
+    lent = LentMachine(script, program, state)
+    for _ in range(6):
+        lent.run(chooser.choice([0, 1, 2, 5, 200, 1000, 1000001]), chooser.choice([1] * 20 + [2]), word="plain")
+
+
+def plain_case(chooser, script):
+    """Such runs, or as often a single instruction."""
+    if chooser.randrange(2) == 0:
+        plain_series(chooser, script)
+    else:
+        LentMachine(script, *any_single(chooser)).run(1, word="plain")
 
 
 # Each family with its share of the cases.
@@ -313,5 +328,5 @@ FAMILIES = {
     "reset": (reset_case, 1),
     "instruction": (instruction_case, 40),
     "broken": (broken_case, 5),
-    "plain": (plain_case, 2),
+    "plain": (plain_case, 4),
 }
