@@ -106,7 +106,7 @@ static inline uint64_t step_place(uint64_t pc, uint64_t sp, uint64_t fbr, uint64
 
 /* ---- the run: the registers are its variables, which these read and write */
 
-#define CELL(at) cell(bits[at], tags[at])
+#define CELL(at) ((struct cell){bits[at], tags[at]})
 #define SET(at, value) do { struct cell made = (value); bits[at] = made.bits; tags[at] = made.tag; } while (0)
 
 /* The run ends with this number. */
@@ -123,13 +123,13 @@ static inline uint64_t step_place(uint64_t pc, uint64_t sp, uint64_t fbr, uint64
 /* 8, or the record of a step that writes `count` cells: "its cell places by rising address, then its step place". */
 #define KEEP(count, cell_places) \
     do { \
-        if (free_place != NULL) { \
-            if ((uint64_t)(history_end - free_place) < (count) + 1) END(8); \
+        if (h > 0) { \
+            if (h - used < (count) + 1) END(8); \
             cell_places; \
-            *free_place++ = step_place(pc, sp, fbr, (count)); \
+            history[used++] = step_place(pc, sp, fbr, (count)); \
         } \
     } while (0)
-#define KEEP_CELL(at) *free_place++ = cell_place((at), CELL(at))
+#define KEEP_CELL(at) history[used++] = cell_place((at), CELL(at))
 
 /* How instructions end: 7 where SP rises, the record, the cells written, the new SP. */
 #define WRITE(at, value, new_sp) do { KEEP(1, KEEP_CELL(at)); SET(at, value); sp = (new_sp); } while (0)
@@ -152,10 +152,9 @@ static uint32_t repeat(struct machine *m, uint64_t limit, uint64_t *made) {
     const uint64_t *const table = m->table;
     uint32_t *const bits = m->bits;
     uint8_t *const tags = m->tags;
-    uint64_t *free_place = m->h > 0 ? m->history + m->used : NULL; /* none where no history is kept */
-    const uint64_t *const history_end = m->history + m->h;
-    const uint64_t length = m->length, n = m->n;
-    uint64_t pc = m->pc, sp = m->sp, fbr = m->fbr, halt = m->halt, left = limit;
+    uint64_t *const history = m->history;
+    const uint64_t length = m->length, n = m->n, h = m->h;
+    uint64_t pc = m->pc, sp = m->sp, fbr = m->fbr, halt = m->halt, used = m->used, left = limit;
     uint32_t number;
     if (halt == 1) END(0);
     for (;; left--) {
@@ -247,7 +246,7 @@ end:
     m->sp = sp;
     m->fbr = fbr;
     m->halt = halt;
-    if (free_place != NULL) m->used = (uint64_t)(free_place - m->history);
+    m->used = used;
     *made = limit - left;
     return number;
 }

@@ -15,9 +15,6 @@
 
 enum { CELLS = 1000, ROUNDS = 31, STEPS = 1000000, COUNTED_RUNS = 10 };
 
-typedef uint32_t run_call(const uint64_t *, size_t, uint64_t, uint64_t, uint64_t *, size_t, uint32_t *, size_t,
-                          uint8_t *, size_t, uint64_t *, size_t, uint64_t *, size_t);
-
 struct machine {
     uint64_t registers[SAM_REGISTERS];
     uint32_t bits[CELLS];

@@ -34,8 +34,8 @@ count_all() {
         "$speed" names | while read -r name; do
             sam=$(a_step sam "$name" "$h")
             plain=$(a_step plain "$name" "$h")
-            awk -v name="$name" "BEGIN { printf \"%-16s H %4d   sam %8.1f   plain %8.1f   sam/plain %.2f\n\", name, $h, $sam,
-                $plain, $sam / $plain }"
+            awk -v name="$name" -v h="$h" -v sam="$sam" -v plain="$plain" 'BEGIN {
+                printf "%-16s H %4d   sam %8.1f   plain %8.1f   sam/plain %.2f\n", name, h, sam, plain, sam / plain }'
         done
     done
 }

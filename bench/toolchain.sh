@@ -1,4 +1,5 @@
-# Sourced by run.sh and speed.sh: a C compiler for x86-64, for which the static library is, and what runs its programs.
+# Sourced by ./sam and the scripts here: a C compiler for x86-64, for which the static library is, and what runs its
+# programs.
 #
 #   CC       the compiler, or empty where there is none
 #   CLANG    a clang for x86-64 besides, for the speeds, or empty
