@@ -23,7 +23,7 @@ def list_word(values):
     """A list as one word of a line: items `value` or `value*count`, a comma between; `-` for none."""
     items = []
     for value, group in groupby(values):
-        count = sum(1 for _ in group)
+        count = len(list(group))
         items.append(f"{value}*{count}" if count > 1 else str(value))
     return ",".join(items) or "-"
 

@@ -1,7 +1,10 @@
 """The families of cases that compare.py draws from: each adds calls to a script."""
 
+from itertools import product
+
 import sam
 from calls import IMAGE_BYTES, PLACES, TEXT_BYTES, LentMachine
+from programs import FLOAT_EDGES, INTEGER_EDGES, TWO_FLOATS, TWO_INTEGERS
 from programs import any_integer, any_operand, any_pattern, any_program
 from sam.actions import FLOAT, INT, MA, PA
 from sam.machine import cell_place, step_place
@@ -249,17 +252,6 @@ def broken_case(chooser, script):
         any_call(chooser, lent)
 
 
-def plain_case(chooser, script):
-    """The same for the plain C run, which the speeds are measured against."""
-    program = made_program(chooser)
-    state = worked_state(chooser, program)
-    if chooser.randrange(3) == 0:
-        chooser.choice(BREAKS)(chooser, program, state)
-    lent = LentMachine(script, program, state)
-    for _ in range(6):
-        lent.run(chooser.choice([0, 1, 2, 5, 200, 1000, 1000001]), chooser.choice([1] * 20 + [2]), word="plain")
-
-
 # ---- one instruction at a time
 
 
@@ -288,22 +280,74 @@ def step_number(program, state):
     return sam.step(program, copy)
 
 
-def instruction_case(chooser, script):
-    """One instruction on a small stack: most often one that it takes, so that its results are compared."""
-    code = chooser.randrange(len(NAMES))
+def single(instruction):
+    """The program of this instruction alone."""
     table = [0] * PLACES
-    number, length, _ = sam.assemble((NAMES[code] + any_operand(chooser, KINDS[code], 1) + " STOP").encode(), table)
+    number, length, _ = sam.assemble((instruction + " STOP").encode(), table)
     assert number == 0
-    program = sam.Program(table, length)
+    return sam.Program(table, length)
+
+
+def edge_pairs():
+    """Each instruction of two INTs or two FLOATs with each pair of edge values."""
+    for names, tag, edges in [(TWO_INTEGERS, INT, INTEGER_EDGES), ([*TWO_FLOATS, "CMPF"], FLOAT, FLOAT_EDGES)]:
+        for program, below, top in product(map(single, names), edges, edges):
+            registers = sam.Registers(n=3, h=2, sp=2)
+            yield program, sam.State([below % WORD, top % WORD, 0], [tag, tag, INT], [0, 0], registers)
+
+
+def instruction_corners(script):
+    for program, state in edge_pairs():
+        LentMachine(script, program, state).step()
+
+
+def any_single(chooser):
+    """One instruction and a small stack: most often one that it takes, so that its results are compared."""
+    code = chooser.randrange(len(NAMES))
+    program = single(NAMES[code] + any_operand(chooser, KINDS[code], 1))
     state = any_small_state(chooser)
     for _ in range(chooser.choice([0, 6, 30])):
         if step_number(program, state) not in (3, 4):
             break
         state = any_small_state(chooser)
-    lent = LentMachine(script, program, state)
+    return program, state
+
+
+def instruction_case(chooser, script):
+    lent = LentMachine(script, *any_single(chooser))
     lent.step()
     lent.back()
 
+
+# ---- the direct run in C, which the speeds are measured against
+
+
+def plain_corners(script):
+    for program, state in edge_pairs():
+        LentMachine(script, program, state).run(1, word="plain")
+
+
+def plain_series(chooser, script):
+    """Runs of a program, from a state that may be broken."""
+    program = made_program(chooser)
+    state = worked_state(chooser, program)
+    if chooser.randrange(3) == 0:
+        chooser.choice(BREAKS)(chooser, program, state)
+    lent = LentMachine(script, program, state)
+    for _ in range(6):
+        lent.run(chooser.choice([0, 1, 2, 5, 200, 1000, 1000001]), chooser.choice([1] * 20 + [2]), word="plain")
+
+
+def plain_case(chooser, script):
+    """Such runs, or as often a single instruction."""
+    if chooser.randrange(2) == 0:
+        plain_series(chooser, script)
+    else:
+        LentMachine(script, *any_single(chooser)).run(1, word="plain")
+
+
+# What a family has before its cases are drawn.
+CORNERS = {"text": text_corners, "instruction": instruction_corners, "plain": plain_corners}
 
 # Each family with its share of the cases.
 FAMILIES = {
@@ -313,5 +357,5 @@ FAMILIES = {
     "reset": (reset_case, 1),
     "instruction": (instruction_case, 40),
     "broken": (broken_case, 5),
-    "plain": (plain_case, 2),
+    "plain": (plain_case, 4),
 }

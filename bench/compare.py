@@ -16,7 +16,7 @@ from collections import Counter
 
 import sam
 from calls import Script
-from cases import FAMILIES, text_corners
+from cases import CORNERS, FAMILIES
 from sources import any_source
 
 ALL_NUMBERS = [*range(0, 12), *range(21, 32), *range(41, 46), 50]
@@ -26,8 +26,9 @@ CUT = 400  # characters of a line that a difference shows
 def make_script(seed, cases, families):
     chooser = random.Random(seed)
     script = Script()
-    if "text" in families:
-        text_corners(script)
+    for name in families:
+        if name in CORNERS:
+            CORNERS[name](script)
     made = [FAMILIES[name][0] for name in families]
     shares = [FAMILIES[name][1] for name in families]
     for case in chooser.choices(made, shares, k=cases):

@@ -180,8 +180,6 @@ static void print_machine(uint32_t number) {
 
 typedef uint32_t machine_call(const uint64_t *, size_t, uint64_t, uint64_t *, size_t, uint32_t *, size_t, uint8_t *,
                               size_t, uint64_t *, size_t);
-typedef uint32_t run_call(const uint64_t *, size_t, uint64_t, uint64_t, uint64_t *, size_t, uint32_t *, size_t,
-                          uint8_t *, size_t, uint64_t *, size_t, uint64_t *, size_t);
 
 static void call_machine(machine_call *call) {
     lend(&told, 0);

@@ -1,5 +1,5 @@
-/* A plain C interpreter of document 01, as one would write it for speed: soundness is judged once, then a loop over
- * one switch. It is what the proved run is measured against. */
+/* A direct C interpreter of document 01, as one would write it for speed: soundness is judged once, then a loop over
+ * one switch whose cases test, record and write their cells themselves. The proved run is measured against it. */
 #include "plain.h"
 
 #include <stdbool.h>
@@ -22,14 +22,7 @@ struct machine {
     uint64_t length, n, h, pc, sp, fbr, halt, used;
 };
 
-/* What an accepted step does: the new registers, and `count` cells written from `at` up: the first is `first`, the
- * second `second`, the rest INT 0. */
 struct cell { uint32_t bits; uint8_t tag; };
-struct effect {
-    uint64_t pc, sp, fbr, halt;
-    uint64_t at, count;
-    struct cell first, second;
-};
 
 /* ---- 10 */
 
@@ -68,11 +61,16 @@ static bool cells_sound(const struct machine *m) {
 
 /* ---- values */
 
-static inline struct cell integer(uint32_t bits) { return (struct cell){bits, SAM_INT}; }
+/* An operand that may be negative, for sums with a register. */
+static inline uint64_t widened(uint32_t operand) { return (uint64_t)(int32_t)operand; }
 
-static inline struct cell address(uint64_t number) { return (struct cell){(uint32_t)number, SAM_MA}; }
+static inline struct cell cell(uint32_t bits, uint8_t tag) { return (struct cell){bits, tag}; }
 
-static inline struct cell program_address(uint64_t number) { return (struct cell){(uint32_t)number, SAM_PA}; }
+static inline struct cell integer(uint32_t bits) { return cell(bits, SAM_INT); }
+
+static inline struct cell address(uint64_t number) { return cell((uint32_t)number, SAM_MA); }
+
+static inline struct cell program_address(uint64_t number) { return cell((uint32_t)number, SAM_PA); }
 
 static inline float as_float(uint32_t bits) {
     float value;
@@ -83,7 +81,7 @@ static inline float as_float(uint32_t bits) {
 static inline struct cell rounded(float value) {
     uint32_t bits;
     memcpy(&bits, &value, sizeof bits);
-    return (struct cell){value != value ? 0x7FC00000u : bits, SAM_FLOAT};
+    return cell(value != value ? 0x7FC00000u : bits, SAM_FLOAT);
 }
 
 static inline uint32_t divided(uint32_t below, uint32_t top) {
@@ -96,195 +94,161 @@ static inline uint32_t remainder_of(uint32_t below, uint32_t top) {
 
 static inline struct cell compared(bool less, bool greater) { return integer((uint32_t)less - (uint32_t)greater); }
 
-/* ---- one step */
+/* ---- history places */
 
-static inline struct cell cell_at(const struct machine *m, uint64_t at) {
-    return (struct cell){m->bits[at], m->tags[at]};
+static inline uint64_t cell_place(uint64_t at, struct cell old) {
+    return at << 53 | (uint64_t)old.tag << 51 | (uint64_t)old.bits << 19;
 }
 
-/* One cell written, and the new SP. */
-static inline uint32_t write_one(struct effect *e, uint64_t at, struct cell cell, uint64_t sp) {
-    e->at = at;
-    e->count = 1;
-    e->first = cell;
-    e->sp = sp;
-    return 0;
+static inline uint64_t step_place(uint64_t pc, uint64_t sp, uint64_t fbr, uint64_t written) {
+    return UINT64_C(1) << 63 | pc << 52 | sp << 42 | fbr << 32 | written << 22;
 }
 
-static inline uint32_t push(const struct machine *m, struct effect *e, struct cell cell) {
-    return write_one(e, m->sp, cell, m->sp + 1);
-}
+/* ---- the run: the registers are its variables, which these read and write */
 
-static inline uint32_t fill(const struct machine *m, struct effect *e, uint64_t from, uint64_t sp) {
-    if (sp >= m->n) return 7;
-    e->at = from;
-    e->count = sp > from ? sp - from : 0;
-    e->first = e->second = integer(0);
-    e->sp = sp;
-    return 0;
-}
+#define CELL(at) ((struct cell){bits[at], tags[at]})
+#define SET(at, value) do { struct cell made = (value); bits[at] = made.bits; tags[at] = made.tag; } while (0)
 
-/* The refusal 3 to 6 of the instruction (and 7 of ADDSP), or 0 with its effect. */
-#define ONE if (m->sp < 1) return 3; vt = cell_at(m, m->sp - 1)
-#define TWO if (m->sp < 2) return 3; vb = cell_at(m, m->sp - 2); vt = cell_at(m, m->sp - 1)
-#define TAKE(condition) if (!(condition)) return 4
-#define ONE_INT ONE; TAKE(vt.tag == SAM_INT)
-#define TWO_INTS TWO; TAKE(vb.tag == SAM_INT && vt.tag == SAM_INT)
-#define TWO_FLOATS TWO; TAKE(vb.tag == SAM_FLOAT && vt.tag == SAM_FLOAT)
-#define RESULT_OF_ONE(cell) return write_one(e, m->sp - 1, (cell), m->sp)
-#define RESULT_OF_TWO(cell) return write_one(e, m->sp - 2, (cell), m->sp - 1)
+/* The run ends with this number. */
+#define END(given) do { number = (given); goto end; } while (0)
 
-static inline uint32_t decide(const struct machine *m, struct effect *e) {
-    uint64_t place = m->table[m->pc];
-    uint32_t operand = (uint32_t)place;
-    int64_t number = (int32_t)operand, at;
-    struct cell vt, vb;
-    e->pc = m->pc + 1;
-    e->sp = m->sp;
-    e->fbr = m->fbr;
-    e->halt = 0;
-    e->count = 0;
-    switch ((enum code)(place >> 32)) {
-    case STOP: e->halt = 1; e->pc = m->pc; return 0;
-    case PUSHIMM: return push(m, e, integer(operand));
-    case PUSHIMMF: return push(m, e, (struct cell){operand, SAM_FLOAT});
-    case PUSHIMMPA: return push(m, e, program_address(operand));
-    case DUP: ONE; return push(m, e, vt);
-    case SWAP:
-        TWO;
-        e->at = m->sp - 2;
-        e->count = 2;
-        e->first = vt;
-        e->second = vb;
-        return 0;
-    case ADD:
-        TWO; TAKE(vt.tag == SAM_INT && (vb.tag == SAM_INT || vb.tag == SAM_MA));
-        RESULT_OF_TWO(((struct cell){vb.bits + vt.bits, vb.tag}));
-    case SUB:
-        TWO; TAKE(vt.tag == SAM_INT && (vb.tag == SAM_INT || vb.tag == SAM_MA));
-        RESULT_OF_TWO(((struct cell){vb.bits - vt.bits, vb.tag}));
-    case TIMES: TWO_INTS; RESULT_OF_TWO(integer(vb.bits * vt.bits));
-    case DIV: TWO_INTS; if (vt.bits == 0) return 5; RESULT_OF_TWO(integer(divided(vb.bits, vt.bits)));
-    case MOD: TWO_INTS; if (vt.bits == 0) return 5; RESULT_OF_TWO(integer(remainder_of(vb.bits, vt.bits)));
-    case ADDF: TWO_FLOATS; RESULT_OF_TWO(rounded(as_float(vb.bits) + as_float(vt.bits)));
-    case SUBF: TWO_FLOATS; RESULT_OF_TWO(rounded(as_float(vb.bits) - as_float(vt.bits)));
-    case TIMESF: TWO_FLOATS; RESULT_OF_TWO(rounded(as_float(vb.bits) * as_float(vt.bits)));
-    case DIVF: TWO_FLOATS; RESULT_OF_TWO(rounded(as_float(vb.bits) / as_float(vt.bits)));
-    case AND: TWO_INTS; RESULT_OF_TWO(integer(vb.bits && vt.bits));
-    case OR: TWO_INTS; RESULT_OF_TWO(integer(vb.bits || vt.bits));
-    case NAND: TWO_INTS; RESULT_OF_TWO(integer(!(vb.bits && vt.bits)));
-    case NOR: TWO_INTS; RESULT_OF_TWO(integer(!(vb.bits || vt.bits)));
-    case XOR: TWO_INTS; RESULT_OF_TWO(integer(!vb.bits != !vt.bits));
-    case NOT: ONE_INT; RESULT_OF_ONE(integer(!vt.bits));
-    case BITAND: TWO_INTS; RESULT_OF_TWO(integer(vb.bits & vt.bits));
-    case BITOR: TWO_INTS; RESULT_OF_TWO(integer(vb.bits | vt.bits));
-    case BITNAND: TWO_INTS; RESULT_OF_TWO(integer(~(vb.bits & vt.bits)));
-    case BITNOR: TWO_INTS; RESULT_OF_TWO(integer(~(vb.bits | vt.bits)));
-    case BITXOR: TWO_INTS; RESULT_OF_TWO(integer(vb.bits ^ vt.bits));
-    case BITNOT: ONE_INT; RESULT_OF_ONE(integer(~vt.bits));
-    case CMP:
-        TWO_INTS;
-        RESULT_OF_TWO(compared((int32_t)vb.bits < (int32_t)vt.bits, (int32_t)vb.bits > (int32_t)vt.bits));
-    case CMPF: {
-        TWO_FLOATS;
-        float below = as_float(vb.bits), top = as_float(vt.bits);
-        if (below != below || top != top) return 5;
-        RESULT_OF_TWO(compared(below < top, below > top));
+/* 3, then 4: the values that an instruction takes. */
+#define ONE if (sp < 1) END(3); vt = CELL(sp - 1)
+#define TWO if (sp < 2) END(3); vb = CELL(sp - 2); vt = CELL(sp - 1)
+#define TAKE(condition) if (!(condition)) END(4)
+#define ONE_TAGGED(tagged) ONE; TAKE(vt.tag == (tagged))
+#define TWO_TAGGED(tagged) TWO; TAKE(vb.tag == (tagged) && vt.tag == (tagged))
+#define TWO_TO_ADD TWO; TAKE((vb.tag == SAM_INT || vb.tag == SAM_MA) && vt.tag == SAM_INT)
+
+/* 8, or the record of a step that writes `count` cells: "its cell places by rising address, then its step place". */
+#define KEEP(count, cell_places) \
+    do { \
+        if (h > 0) { \
+            if (h - used < (count) + 1) END(8); \
+            cell_places; \
+            history[used++] = step_place(pc, sp, fbr, (count)); \
+        } \
+    } while (0)
+#define KEEP_CELL(at) history[used++] = cell_place((at), CELL(at))
+
+/* How instructions end: 7 where SP rises, the record, the cells written, the new SP. */
+#define WRITE(at, value, new_sp) do { KEEP(1, KEEP_CELL(at)); SET(at, value); sp = (new_sp); } while (0)
+#define PUSH(value) do { if (sp + 1 >= n) END(7); WRITE(sp, value, sp + 1); } while (0)
+#define RESULT_OF_ONE(value) WRITE(sp - 1, value, sp)
+#define RESULT_OF_TWO(value) WRITE(sp - 2, value, sp - 1)
+#define POP do { KEEP(0, ); sp--; } while (0)
+#define FILL(from, new_sp) \
+    do { \
+        const uint64_t low = (from), high = (new_sp), count = high > low ? high - low : 0; \
+        if (high >= n) END(7); \
+        KEEP(count, for (uint64_t i = low; i < high; i++) KEEP_CELL(i)); \
+        for (uint64_t i = low; i < high; i++) SET(i, integer(0)); \
+        sp = high; \
+    } while (0)
+
+/* Steps of a sound state: the number that ends them, and how many were made. A negative address or offset, taken as
+ * unsigned, is above every SP and N. */
+static uint32_t repeat(struct machine *m, uint64_t limit, uint64_t *made) {
+    const uint64_t *const table = m->table;
+    uint32_t *const bits = m->bits;
+    uint8_t *const tags = m->tags;
+    uint64_t *const history = m->history;
+    const uint64_t length = m->length, n = m->n, h = m->h;
+    uint64_t pc = m->pc, sp = m->sp, fbr = m->fbr, halt = m->halt, used = m->used, left = limit;
+    uint32_t number;
+    if (halt == 1) END(0);
+    for (;; left--) {
+        if (left == 0) END(50);
+        if (pc == length) END(2);
+        const uint64_t place = table[pc];
+        const uint32_t operand = (uint32_t)place;
+        uint64_t next = pc + 1, at;
+        struct cell vt, vb;
+        switch (place >> 32) {
+        case STOP: KEEP(0, ); halt = 1; left--; END(0);
+        case PUSHIMM: PUSH(integer(operand)); break;
+        case PUSHIMMF: PUSH(cell(operand, SAM_FLOAT)); break;
+        case PUSHIMMPA: PUSH(program_address(operand)); break;
+        case DUP: ONE; PUSH(vt); break;
+        case SWAP: TWO; KEEP(2, KEEP_CELL(sp - 2); KEEP_CELL(sp - 1)); SET(sp - 2, vt); SET(sp - 1, vb); break;
+        case ADD: TWO_TO_ADD; RESULT_OF_TWO(cell(vb.bits + vt.bits, vb.tag)); break;
+        case SUB: TWO_TO_ADD; RESULT_OF_TWO(cell(vb.bits - vt.bits, vb.tag)); break;
+        case TIMES: TWO_TAGGED(SAM_INT); RESULT_OF_TWO(integer(vb.bits * vt.bits)); break;
+        case DIV:
+            TWO_TAGGED(SAM_INT);
+            if (vt.bits == 0) END(5);
+            RESULT_OF_TWO(integer(divided(vb.bits, vt.bits)));
+            break;
+        case MOD:
+            TWO_TAGGED(SAM_INT);
+            if (vt.bits == 0) END(5);
+            RESULT_OF_TWO(integer(remainder_of(vb.bits, vt.bits)));
+            break;
+        case ADDF: TWO_TAGGED(SAM_FLOAT); RESULT_OF_TWO(rounded(as_float(vb.bits) + as_float(vt.bits))); break;
+        case SUBF: TWO_TAGGED(SAM_FLOAT); RESULT_OF_TWO(rounded(as_float(vb.bits) - as_float(vt.bits))); break;
+        case TIMESF: TWO_TAGGED(SAM_FLOAT); RESULT_OF_TWO(rounded(as_float(vb.bits) * as_float(vt.bits))); break;
+        case DIVF: TWO_TAGGED(SAM_FLOAT); RESULT_OF_TWO(rounded(as_float(vb.bits) / as_float(vt.bits))); break;
+        case AND: TWO_TAGGED(SAM_INT); RESULT_OF_TWO(integer(vb.bits && vt.bits)); break;
+        case OR: TWO_TAGGED(SAM_INT); RESULT_OF_TWO(integer(vb.bits || vt.bits)); break;
+        case NAND: TWO_TAGGED(SAM_INT); RESULT_OF_TWO(integer(!(vb.bits && vt.bits))); break;
+        case NOR: TWO_TAGGED(SAM_INT); RESULT_OF_TWO(integer(!(vb.bits || vt.bits))); break;
+        case XOR: TWO_TAGGED(SAM_INT); RESULT_OF_TWO(integer(!vb.bits != !vt.bits)); break;
+        case NOT: ONE_TAGGED(SAM_INT); RESULT_OF_ONE(integer(!vt.bits)); break;
+        case BITAND: TWO_TAGGED(SAM_INT); RESULT_OF_TWO(integer(vb.bits & vt.bits)); break;
+        case BITOR: TWO_TAGGED(SAM_INT); RESULT_OF_TWO(integer(vb.bits | vt.bits)); break;
+        case BITNAND: TWO_TAGGED(SAM_INT); RESULT_OF_TWO(integer(~(vb.bits & vt.bits))); break;
+        case BITNOR: TWO_TAGGED(SAM_INT); RESULT_OF_TWO(integer(~(vb.bits | vt.bits))); break;
+        case BITXOR: TWO_TAGGED(SAM_INT); RESULT_OF_TWO(integer(vb.bits ^ vt.bits)); break;
+        case BITNOT: ONE_TAGGED(SAM_INT); RESULT_OF_ONE(integer(~vt.bits)); break;
+        case CMP:
+            TWO_TAGGED(SAM_INT);
+            RESULT_OF_TWO(compared((int32_t)vb.bits < (int32_t)vt.bits, (int32_t)vb.bits > (int32_t)vt.bits));
+            break;
+        case CMPF: {
+            TWO_TAGGED(SAM_FLOAT);
+            float below = as_float(vb.bits), top = as_float(vt.bits);
+            if (below != below || top != top) END(5);
+            RESULT_OF_TWO(compared(below < top, below > top));
+            break;
+        }
+        case GREATER: TWO_TAGGED(SAM_INT); RESULT_OF_TWO(integer((int32_t)vb.bits > (int32_t)vt.bits)); break;
+        case LESS: TWO_TAGGED(SAM_INT); RESULT_OF_TWO(integer((int32_t)vb.bits < (int32_t)vt.bits)); break;
+        case EQUAL: TWO; RESULT_OF_TWO(integer(vb.bits == vt.bits && vb.tag == vt.tag)); break;
+        case ISNIL: ONE; RESULT_OF_ONE(integer(vt.bits == 0)); break;
+        case ISPOS: ONE_TAGGED(SAM_INT); RESULT_OF_ONE(integer((int32_t)vt.bits > 0)); break;
+        case ISNEG: ONE_TAGGED(SAM_INT); RESULT_OF_ONE(integer((int32_t)vt.bits < 0)); break;
+        case PUSHSP: PUSH(address(sp)); break;
+        case PUSHFBR: PUSH(address(fbr)); break;
+        case LINK: PUSH(address(fbr)); fbr = sp - 1; break;
+        case POPFBR:
+            ONE_TAGGED(SAM_MA);
+            if (vt.bits >= n) END(6);
+            POP;
+            fbr = vt.bits;
+            break;
+        case POPSP: ONE_TAGGED(SAM_MA); if (vt.bits >= n) END(6); FILL(sp - 1, vt.bits); break;
+        case ADDSP: if ((int64_t)(sp + widened(operand)) < 0) END(3); FILL(sp, sp + widened(operand)); break;
+        case PUSHIND: ONE_TAGGED(SAM_MA); if (vt.bits >= sp - 1) END(6); RESULT_OF_ONE(CELL(vt.bits)); break;
+        case STOREIND: TWO; TAKE(vb.tag == SAM_MA); if (vb.bits >= sp - 2) END(6); WRITE(vb.bits, vt, sp - 2); break;
+        case PUSHOFF: at = fbr + widened(operand); if (at >= sp) END(6); PUSH(CELL(at)); break;
+        case STOREOFF: ONE; at = fbr + widened(operand); if (at >= sp - 1) END(6); WRITE(at, vt, sp - 1); break;
+        case JUMP: KEEP(0, ); next = operand; break;
+        case JUMPC: ONE_TAGGED(SAM_INT); POP; if (vt.bits) next = operand; break;
+        case JUMPIND: ONE_TAGGED(SAM_PA); POP; next = vt.bits; break;
+        case JSR: PUSH(program_address(next)); next = operand; break;
+        case JSRIND: ONE_TAGGED(SAM_PA); RESULT_OF_ONE(program_address(next)); next = vt.bits; break;
+        default: END(10); /* no sound table has another code */
+        }
+        pc = next;
     }
-    case GREATER: TWO_INTS; RESULT_OF_TWO(integer((int32_t)vb.bits > (int32_t)vt.bits));
-    case LESS: TWO_INTS; RESULT_OF_TWO(integer((int32_t)vb.bits < (int32_t)vt.bits));
-    case EQUAL: TWO; RESULT_OF_TWO(integer(vb.bits == vt.bits && vb.tag == vt.tag));
-    case ISNIL: ONE; RESULT_OF_ONE(integer(vt.bits == 0));
-    case ISPOS: ONE_INT; RESULT_OF_ONE(integer((int32_t)vt.bits > 0));
-    case ISNEG: ONE_INT; RESULT_OF_ONE(integer((int32_t)vt.bits < 0));
-    case PUSHSP: return push(m, e, address(m->sp));
-    case PUSHFBR: return push(m, e, address(m->fbr));
-    case LINK: e->fbr = m->sp; return push(m, e, address(m->fbr));
-    case POPFBR:
-        ONE; TAKE(vt.tag == SAM_MA);
-        if (vt.bits >= m->n) return 6; /* a negative number is above every N */
-        e->fbr = vt.bits;
-        e->sp = m->sp - 1;
-        return 0;
-    case POPSP:
-        ONE; TAKE(vt.tag == SAM_MA);
-        if (vt.bits >= m->n) return 6;
-        return fill(m, e, m->sp - 1, vt.bits);
-    case ADDSP:
-        if ((int64_t)m->sp + number < 0) return 3;
-        return fill(m, e, m->sp, (uint64_t)((int64_t)m->sp + number));
-    case PUSHIND:
-        ONE; TAKE(vt.tag == SAM_MA);
-        if (vt.bits >= m->sp - 1) return 6;
-        RESULT_OF_ONE(cell_at(m, vt.bits));
-    case STOREIND:
-        TWO; TAKE(vb.tag == SAM_MA);
-        if (vb.bits >= m->sp - 2) return 6;
-        return write_one(e, vb.bits, vt, m->sp - 2);
-    case PUSHOFF:
-        at = (int64_t)m->fbr + number;
-        if (at < 0 || at >= (int64_t)m->sp) return 6;
-        return push(m, e, cell_at(m, (uint64_t)at));
-    case STOREOFF:
-        ONE;
-        at = (int64_t)m->fbr + number;
-        if (at < 0 || at >= (int64_t)m->sp - 1) return 6;
-        return write_one(e, (uint64_t)at, vt, m->sp - 1);
-    case JUMP: e->pc = operand; return 0;
-    case JUMPC: ONE_INT; e->sp = m->sp - 1; if (vt.bits) e->pc = operand; return 0;
-    case JUMPIND: ONE; TAKE(vt.tag == SAM_PA); e->sp = m->sp - 1; e->pc = vt.bits; return 0;
-    case JSR: e->pc = operand; return push(m, e, program_address(m->pc + 1));
-    case JSRIND: ONE; TAKE(vt.tag == SAM_PA); e->pc = vt.bits; RESULT_OF_ONE(program_address(m->pc + 1));
-    case CODES: break;
-    }
-    return 10;
-}
-
-/* "A step adds its cell places by rising address, then its step place." */
-static inline void keep(struct machine *m, const struct effect *e) {
-    for (uint64_t i = 0; i < e->count; i++) {
-        uint64_t at = e->at + i;
-        m->history[m->used++] = at << 53 | (uint64_t)m->tags[at] << 51 | (uint64_t)m->bits[at] << 19;
-    }
-    m->history[m->used++] = UINT64_C(1) << 63 | m->pc << 52 | m->sp << 42 | m->fbr << 32 | e->count << 22;
-}
-
-static inline void set_cell(struct machine *m, uint64_t at, struct cell cell) {
-    m->bits[at] = cell.bits;
-    m->tags[at] = cell.tag;
-}
-
-static inline void commit(struct machine *m, const struct effect *e) {
-    if (m->h > 0) keep(m, e);
-    if (e->count > 0) set_cell(m, e->at, e->first);
-    if (e->count > 1) set_cell(m, e->at + 1, e->second);
-    for (uint64_t i = 2; i < e->count; i++) set_cell(m, e->at + i, integer(0));
-    m->pc = e->pc;
-    m->sp = e->sp;
-    m->fbr = e->fbr;
-    m->halt = e->halt;
-}
-
-/* A step of a sound state whose HALT is 0: 2 to 8 in order. */
-static inline uint32_t step(struct machine *m) {
-    struct effect e;
-    if (m->pc == m->length) return 2;
-    uint32_t number = decide(m, &e);
-    if (number != 0) return number;
-    if (e.sp >= m->n) return 7;
-    if (m->h > 0 && m->h - m->used < e.count + 1) return 8;
-    commit(m, &e);
-    return 0;
-}
-
-static uint32_t repeat(struct machine *m, uint64_t limit, uint64_t *steps) {
-    while (m->halt == 0) {
-        if (*steps == limit) return 50;
-        uint32_t number = step(m);
-        if (number != 0) return number;
-        ++*steps;
-    }
-    return 0;
+end:
+    m->pc = pc;
+    m->sp = sp;
+    m->fbr = fbr;
+    m->halt = halt;
+    m->used = used;
+    *made = limit - left;
+    return number;
 }
 
 uint32_t plain_run(const uint64_t *table, size_t places, uint64_t length, uint64_t limit, uint64_t *registers,

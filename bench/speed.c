@@ -1,5 +1,9 @@
-/* Steps a second of the proved run (sam_run) and of the plain one (plain_run), on the same programs, in the same
- * process, in turns. Only the runs are timed; both must leave the same memory. */
+/* The proved run (sam_run) beside the direct one of plain.c (plain_run), on the same programs and in the same process.
+ *
+ *   speed [STEPS]                   millions of steps a second of both; only the runs are timed
+ *   speed names                     the programs' names, one a line
+ *   speed sam|plain NAME H LIMIT    a few runs of one side and nothing else, so that its instructions can be counted
+ */
 #define _POSIX_C_SOURCE 200809L
 #include <stdio.h>
 #include <stdlib.h>
@@ -9,10 +13,7 @@
 #include "plain.h"
 #include "sam.h"
 
-enum { CELLS = 1000, ROUNDS = 7 };
-
-typedef uint32_t run_call(const uint64_t *, size_t, uint64_t, uint64_t, uint64_t *, size_t, uint32_t *, size_t,
-                          uint8_t *, size_t, uint64_t *, size_t, uint64_t *, size_t);
+enum { CELLS = 1000, ROUNDS = 31, STEPS = 1000000, COUNTED_RUNS = 10 };
 
 struct machine {
     uint64_t registers[SAM_REGISTERS];
@@ -38,6 +39,8 @@ static const struct work WORKS[] = {
     {"tests and jumps", "PUSHIMM 1000000 a: PUSHIMM 1 SUB DUP ISPOS JUMPC a ADDSP -1 PUSHIMM 1000000 JUMP a"},
 };
 
+enum { WORKS_COUNT = sizeof WORKS / sizeof WORKS[0] };
+
 static uint64_t table[SAM_TABLE_PLACES], length;
 
 static void die(const char *why) {
@@ -51,6 +54,14 @@ static double seconds(void) {
     return (double)now.tv_sec + (double)now.tv_nsec * 1e-9;
 }
 
+static void assemble(const struct work *work) {
+    uint64_t told[2];
+    if (sam_assemble((const uint8_t *)work->source, strlen(work->source), table, SAM_TABLE_PLACES, told, 2) != 0) {
+        die("a source was refused");
+    }
+    length = told[0];
+}
+
 static void reset(struct machine *m, size_t h) {
     if (sam_reset(table, SAM_TABLE_PLACES, length, m->registers, SAM_REGISTERS, m->bits, CELLS, m->tags, CELLS,
                   m->history, h) != 0) {
@@ -58,55 +69,78 @@ static void reset(struct machine *m, size_t h) {
     }
 }
 
-/* One run from a reset: its steps, and the seconds it took. */
-static uint64_t timed_run(run_call *call, struct machine *m, size_t h, double *took) {
+/* The steps of one run, which must end with this number. */
+static uint64_t run(run_call *call, struct machine *m, size_t h, uint64_t limit, uint32_t number) {
     uint64_t told[1];
-    reset(m, h);
-    double start = seconds();
-    uint32_t number = call(table, SAM_TABLE_PLACES, length, SAM_RUN_LIMIT, m->registers, SAM_REGISTERS, m->bits, CELLS,
-                           m->tags, CELLS, m->history, h, told, 1);
-    *took += seconds() - start;
-    if (number != (h > 0 ? 8 : 50)) die("a run ended otherwise than it should");
+    if (call(table, SAM_TABLE_PLACES, length, limit, m->registers, SAM_REGISTERS, m->bits, CELLS, m->tags, CELLS,
+             m->history, h, told, 1) != number) {
+        die("a run ended otherwise than it should");
+    }
     return told[0];
 }
 
-/* Millions of steps a second over about `steps` steps. */
+/* ---- steps a second */
+
+/* Millions of steps a second over about `steps` steps, each run from a reset. */
 static double rate(run_call *call, struct machine *m, size_t h, uint64_t steps) {
     double took = 0;
     uint64_t made = 0;
-    while (made < steps) made += timed_run(call, m, h, &took);
+    while (made < steps) {
+        reset(m, h);
+        double start = seconds();
+        made += run(call, m, h, SAM_RUN_LIMIT, h > 0 ? 8 : 50);
+        took += seconds() - start;
+    }
     return (double)made / took * 1e-6;
 }
 
-/* The best of the rounds: what else the machine does can only slow a round. */
-static double best(const double *rates) {
-    double highest = rates[0];
-    for (int i = 1; i < ROUNDS; i++) highest = rates[i] > highest ? rates[i] : highest;
-    return highest;
-}
-
+/* The two sides take turns, and the best of many short rounds counts: what else the computer does can only slow one. */
 static void measure(const struct work *work, size_t h, uint64_t steps) {
     static struct machine proved, plain;
-    double proved_rates[ROUNDS], plain_rates[ROUNDS];
-    uint64_t told[2];
-    if (sam_assemble((const uint8_t *)work->source, strlen(work->source), table, SAM_TABLE_PLACES, told, 2) != 0) {
-        die("a source was refused");
-    }
-    length = told[0];
+    double sam = 0, other = 0;
+    assemble(work);
     for (int i = 0; i < ROUNDS; i++) {
-        proved_rates[i] = rate(sam_run, &proved, h, steps);
-        plain_rates[i] = rate(plain_run, &plain, h, steps);
+        double sam_now = rate(sam_run, &proved, h, steps), other_now = rate(plain_run, &plain, h, steps);
+        sam = sam_now > sam ? sam_now : sam;
+        other = other_now > other ? other_now : other;
     }
     if (memcmp(&proved, &plain, sizeof proved) != 0) die("the two runs left different memory");
-    double sam = best(proved_rates), other = best(plain_rates);
     printf("%-16s H %4zu   sam %8.1f   plain %8.1f   sam/plain %.2f\n", work->name, h, sam, other, sam / other);
     fflush(stdout);
 }
 
-int main(int count, char **words) {
-    uint64_t steps = count > 1 ? strtoull(words[1], NULL, 10) : 10000000;
+static void measure_all(uint64_t steps) {
     printf("millions of steps a second, best of %d rounds of %llu steps\n", ROUNDS, (unsigned long long)steps);
-    for (size_t i = 0; i < sizeof WORKS / sizeof WORKS[0]; i++) measure(&WORKS[i], 0, steps);
-    for (size_t i = 0; i < sizeof WORKS / sizeof WORKS[0]; i++) measure(&WORKS[i], SAM_HISTORY_LIMIT, steps);
+    for (int i = 0; i < WORKS_COUNT; i++) measure(&WORKS[i], 0, steps);
+    for (int i = 0; i < WORKS_COUNT; i++) measure(&WORKS[i], SAM_HISTORY_LIMIT, steps);
+}
+
+/* ---- one side alone */
+
+static const struct work *work_named(const char *name) {
+    for (int i = 0; i < WORKS_COUNT; i++) {
+        if (strcmp(WORKS[i].name, name) == 0) return &WORKS[i];
+    }
+    die("no such program");
+    return NULL;
+}
+
+static void run_side(const char *side, const char *name, size_t h, uint64_t limit) {
+    static struct machine m;
+    assemble(work_named(name));
+    for (int i = 0; i < COUNTED_RUNS; i++) {
+        reset(&m, h);
+        run(strcmp(side, "sam") == 0 ? sam_run : plain_run, &m, h, limit, 50);
+    }
+}
+
+int main(int count, char **words) {
+    if (count == 5) {
+        run_side(words[1], words[2], strtoul(words[3], NULL, 10), strtoull(words[4], NULL, 10));
+    } else if (count == 2 && strcmp(words[1], "names") == 0) {
+        for (int i = 0; i < WORKS_COUNT; i++) puts(WORKS[i].name);
+    } else {
+        measure_all(count > 1 ? strtoull(words[1], NULL, 10) : STEPS);
+    }
     return 0;
 }

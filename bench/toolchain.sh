@@ -1,6 +1,8 @@
-# Sourced by run.sh and speed.sh: a C compiler for x86-64, for which the static library is, and what runs its programs.
+# Sourced by ./sam and the scripts here: a C compiler for x86-64, for which the static library is, and what runs its
+# programs.
 #
 #   CC       the compiler, or empty where there is none
+#   CLANG    a clang for x86-64 besides, for the speeds, or empty
 #   FLAGS    its options
 #   RUN      what stands before a program built here: nothing on x86-64, an emulator elsewhere
 #   RUN_KIT  what stands before a program that `rt` built
@@ -8,6 +10,7 @@
 #
 # SAM_CC and SAM_EMULATOR name another compiler or emulator.
 
+CLANG=
 FLAGS="-std=c99 -O2 -Wall -Wextra -pedantic"
 RUN=
 RUN_KIT=
@@ -36,6 +39,7 @@ kit_toolchain() {
 
 find_native() {
     CC=$(first_command ${SAM_CC:-} gcc cc clang) || { CC=; WHY="there is no C compiler"; }
+    CLANG=$(first_command clang $(printf 'clang-%s ' 21 20 19 18 17 16 15 14 13)) || CLANG=
 }
 
 find_emulated() {
