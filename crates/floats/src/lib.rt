@@ -1,5 +1,6 @@
 // The F operations on words, each by one operation of f32 between the value of the bits and the bits of the value.
-// f32's own readings are undefined at a NaN, so that a NaN is told apart before and after.
+// f32's own readings are undefined at a NaN, so that a NaN is told apart before and after. It is told apart by a branch, so that the two words are
+// read one by one, as they were written.
 ghost use mathlib.Core.Path.{_≡_};
 ghost use lib.Ieee.{binary32, ofBits, toBits, isNan};
 ghost use Rattle.rules.specs.Floats.{plusF, minusF, timesF, quotientF, unordered, orderedF};
@@ -39,47 +40,51 @@ fn bits_of(x: f32) -> u32
     if x != x { NAN } else { f32::to_bits(x) }
 }
 
+// Whether one of the two is a NaN: then a result is a NaN too, and CMPF has no answer.
+pub fn unordered(b: u32, t: u32) -> bool
+    ensures { λ r. ⌜ r ≡ unordered b t ⌝ }
+{
+    is_nan(b) | is_nan(t)
+}
+
 // ADDF: the sum, rounded once.
 pub fn plus_f(b: u32, t: u32) -> u32
     ensures { λ r. ⌜ r ≡ plusF b t ⌝ }
 {
-    let x = value_of(b);
-    let y = value_of(t);
-    bits_of(x + y)
+    if unordered(b, t) {
+        return NAN;
+    }
+    bits_of(f32::from_bits(b) + f32::from_bits(t))
 }
 
 // SUBF: the difference, rounded once.
 pub fn minus_f(b: u32, t: u32) -> u32
     ensures { λ r. ⌜ r ≡ minusF b t ⌝ }
 {
-    let x = value_of(b);
-    let y = value_of(t);
-    bits_of(x - y)
+    if unordered(b, t) {
+        return NAN;
+    }
+    bits_of(f32::from_bits(b) - f32::from_bits(t))
 }
 
 // TIMESF: the product, rounded once.
 pub fn times_f(b: u32, t: u32) -> u32
     ensures { λ r. ⌜ r ≡ timesF b t ⌝ }
 {
-    let x = value_of(b);
-    let y = value_of(t);
-    bits_of(x * y)
+    if unordered(b, t) {
+        return NAN;
+    }
+    bits_of(f32::from_bits(b) * f32::from_bits(t))
 }
 
 // DIVF: the quotient, rounded once.
 pub fn quotient_f(b: u32, t: u32) -> u32
     ensures { λ r. ⌜ r ≡ quotientF b t ⌝ }
 {
-    let x = value_of(b);
-    let y = value_of(t);
-    bits_of(x / y)
-}
-
-// Whether CMPF has no answer: one of the two is a NaN.
-pub fn unordered(b: u32, t: u32) -> bool
-    ensures { λ r. ⌜ r ≡ unordered b t ⌝ }
-{
-    is_nan(b) | is_nan(t)
+    if unordered(b, t) {
+        return NAN;
+    }
+    bits_of(f32::from_bits(b) / f32::from_bits(t))
 }
 
 // CMPF: CMP of the values. With a NaN, which a step refuses, it is 0.
