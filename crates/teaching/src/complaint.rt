@@ -3,6 +3,7 @@ use crate::show::show;
 use crate::show::show_cell;
 use rules::Assembled;
 use rules::Step;
+use rules::sizes::MAX_PROGRAM;
 
 const SOURCE: [u8; 135] =
     *b"// The complaint: a dwell of four seconds, in tenths, and a trial that stores a float over it
@@ -42,7 +43,7 @@ fn trial(table: &[u64], length: usize) {
 // The complaint's program as the console runs it, and the trial.
 pub(crate) fn complaint() {
     show(b"complaint", &SOURCE);
-    let mut table = [0u64; 1024];
+    let mut table = [0u64; MAX_PROGRAM];
     let made = assembler::assemble(&SOURCE, &mut table);
     let Assembled::Made(length) = made else {
         return;
