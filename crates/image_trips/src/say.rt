@@ -19,108 +19,95 @@ fn number_of(refusal: ImageRefusal) -> u64 {
     }
 }
 
-fn numbers(number: u64, told: usize) {
+fn wide(b: u8) -> u64 {
+    b as u64
+}
+
+fn number(n: u64) {
     text(b" ");
-    io::print_decimal(STDOUT_FILENO, number);
-    text(b" ");
-    io::print_decimal(STDOUT_FILENO, told as u64);
+    io::print_decimal(STDOUT_FILENO, n);
 }
 
 // The number and the length told, which it gives back.
 pub(crate) fn answer(answer: Packed) -> usize {
     match answer {
         Packed::Length(told) => {
-            numbers(0, told);
+            number(0);
+            number(told as u64);
             told
         }
         Packed::Denied(refusal) => {
-            numbers(number_of(refusal), 0);
+            number(number_of(refusal));
+            number(0);
             0
         }
     }
 }
 
 // What stands behind what was told: zeros, or the sevens that were lent.
-fn rest(are_zeros: bool, are_sevens: bool) {
-    if are_zeros {
+fn rest(seen: u64) {
+    if seen == 1 {
         text(b" zeros");
-        return;
     }
-    if are_sevens {
+    if seen == 2 {
         text(b" kept");
-        return;
     }
-    text(b" mixed");
 }
 
-fn bytes_are(image: &[u8], from: usize, v: u8) -> bool {
-    let mut i = from;
-    while i < image.len() {
-        if image[i] != v {
-            return false;
-        }
-        i += 1;
+// Prints a number, or sees whether it is a zero, a seven or another.
+fn see(n: u64, width: usize, prints: bool, seen: u64) -> u64 {
+    if prints {
+        text(b" ");
+        io::print_hex(STDOUT_FILENO, n, width);
+        return seen;
     }
-    true
-}
-
-fn places_are(table: &[u64], from: usize, v: u64) -> bool {
-    let mut i = from;
-    while i < table.len() {
-        if table[i] != v {
-            return false;
-        }
-        i += 1;
+    if n == 0 {
+        return seen | 1;
     }
-    true
-}
-
-fn byte(b: u8) {
-    text(b" ");
-    io::print_hex(STDOUT_FILENO, b as u64, 2);
-}
-
-fn place(p: u64) {
-    text(b" ");
-    io::print_hex(STDOUT_FILENO, p, 16);
+    if n == 7 {
+        return seen | 2;
+    }
+    4
 }
 
 // The first n bytes, and the rest.
-pub(crate) fn bytes(image: &[u8], n: usize) {
+fn bytes(image: &[u8], n: usize) {
+    let mut seen = 0;
     let mut i = 0;
-    while i < n {
-        if i < image.len() {
-            byte(image[i]);
-        }
+    while i < image.len() {
+        seen = see(wide(image[i]), 2, i < n, seen);
         i += 1;
     }
-    rest(bytes_are(image, n, 0), bytes_are(image, n, 7));
+    rest(seen);
 }
 
 // The first n places, and the rest.
 pub(crate) fn places(table: &[u64], n: usize) {
+    let mut seen = 0;
     let mut i = 0;
-    while i < n {
-        if i < table.len() {
-            place(table[i]);
-        }
+    while i < table.len() {
+        seen = see(table[i], 16, i < n, seen);
         i += 1;
     }
-    rest(places_are(table, n, 0), places_are(table, n, 7));
+    rest(seen);
 }
 
 fn sum_of(image: &[u8]) -> u64 {
     let mut total: u64 = 0;
     let mut i = 0;
     while i < image.len() {
-        total = (total + image[i] as u64) % 1000000;
+        total = (total + image[i] as u64) % 1_000_000;
         i += 1;
     }
     total
 }
 
-// The sum of the bytes of a long image.
-pub(crate) fn sum(image: &[u8]) {
-    text(b" sum ");
-    io::print_decimal(STDOUT_FILENO, sum_of(image));
+// The bytes of an image; of a long one, their sum.
+pub(crate) fn image(image: &[u8], told: usize) {
+    if told <= 18 {
+        bytes(image, told);
+    } else {
+        text(b" sum");
+        number(sum_of(image));
+    }
 }

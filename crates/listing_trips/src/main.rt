@@ -1,10 +1,15 @@
 // Sources assembled, listed and assembled again, one line for each: the number of the refusal and its place; or 0, the number of instructions,
 // the length of the listing, and 1 where the listing was assembled to the same number of instructions and the same table. The sources are of
-// document 01's sentences, whole and damaged, and at the edges of its sizes. After them the number alone of listings that are refused, or not.
+// document 01's sentences, whole and damaged, and at the edges of its sizes: standard input has all but the longest, last 256 and 257 labels,
+// 1,024 and 1,025 instructions, and the program of the longest listing. After them the number alone of listings that are refused, or not.
+use libc::STDIN_FILENO;
 use libc::STDOUT_FILENO;
 use rules::Assembled;
 use rules::Listed;
 use rules::TextRefusal;
+use rules::sizes::LISTING_SIZE;
+use rules::sizes::MAX_PROGRAM;
+use rules::sizes::MAX_SOURCE;
 
 fn number_of(e: TextRefusal) -> u64 {
     match e {
@@ -23,210 +28,158 @@ fn number_of(e: TextRefusal) -> u64 {
     }
 }
 
-fn print(n: u64) {
-    io::print_decimal(STDOUT_FILENO, n);
+// What a call tells: its number; and the number of instructions or the length of the listing, or a refused source's place.
+struct Told {
+    number: u64,
+    value: usize,
 }
 
-fn space() {
-    io::write_all(STDOUT_FILENO, b" ");
-}
-
-fn end_line() {
-    io::write_all(STDOUT_FILENO, b"\n");
-}
-
-// Whether two tables are the same.
-fn same(a: &[u64], b: &[u64]) -> bool {
-    if a.len() != b.len() {
-        return false;
+fn assemble(source: &[u8], table: &mut [u64]) -> Told {
+    let answer = assembler::assemble(source, table);
+    match answer {
+        Assembled::Made(n) => Told {
+            number: 0,
+            value: n,
+        },
+        Assembled::Fault(e, at) => Told {
+            number: number_of(e),
+            value: at,
+        },
     }
+}
+
+fn list(table: &[u64], n: usize, text: &mut [u8]) -> Told {
+    let answer = lister::list(table, n, text);
+    match answer {
+        Listed::Told(length) => Told {
+            number: 0,
+            value: length,
+        },
+        Listed::Failed(e) => Told {
+            number: number_of(e),
+            value: 0,
+        },
+    }
+}
+
+// Prints a number, and a space or the end of its line.
+fn say(n: u64, after: u8) {
+    io::print_decimal(STDOUT_FILENO, n);
+    let end = [after];
+    io::write_all(STDOUT_FILENO, &end);
+}
+
+// Prints two numbers, a space between them.
+fn say_both(n: u64, value: usize, after: u8) {
+    say(n, b' ');
+    say(value as u64, after);
+}
+
+// 1 where two tables are the same, else 0.
+fn same(a: &[u64; MAX_PROGRAM], b: &[u64; MAX_PROGRAM]) -> usize {
     let mut i = 0;
-    while i < a.len() {
+    while i < MAX_PROGRAM {
         if a[i] != b[i] {
-            return false;
+            return 0;
         }
         i += 1;
     }
-    true
+    1
 }
 
-// 1 where the first `length` bytes are assembled to `n` instructions and the table, else 0.
-fn again(text: &[u8], length: usize, table: &[u64], n: usize) -> u64 {
-    if text.len() < length {
+// 1 where a listing is assembled to `n` instructions and the table, else 0.
+fn again(listing: &[u8], table: &[u64; MAX_PROGRAM], n: usize) -> usize {
+    let mut second = [5u64; MAX_PROGRAM];
+    let told = assemble(listing, &mut second);
+    if told.number != 0 {
         return 0;
     }
-    let mut second = [5u64; 1024];
-    let a = assembler::assemble(&text[..length], &mut second);
-    match a {
-        Assembled::Fault(e, at) => 0,
-        Assembled::Made(m) => {
-            if m != n {
-                return 0;
-            }
-            if same(table, &second) {
-                return 1;
-            }
-            0
-        }
+    if told.value != n {
+        return 0;
     }
+    same(table, &second)
 }
 
-fn listed(table: &[u64], n: usize) {
-    let mut text = [7u8; 20480];
-    let answer = lister::list(table, n, &mut text);
-    match answer {
-        Listed::Failed(e) => print(number_of(e)),
-        Listed::Told(length) => {
-            print(length as u64);
-            space();
-            print(again(&text, length, table, n));
-        }
+// Prints the length of a program's listing, and whether it is assembled again.
+fn listed(table: &[u64; MAX_PROGRAM], n: usize) {
+    let mut text = [7u8; LISTING_SIZE];
+    let told = list(table, n, &mut text);
+    let length = told.value;
+    if length <= LISTING_SIZE {
+        say_both(length as u64, again(&text[..length], table, n), b'\n');
     }
 }
 
 fn trip(source: &[u8]) {
-    let mut table = [9u64; 1024];
-    let answer = assembler::assemble(source, &mut table);
-    match answer {
-        Assembled::Fault(e, at) => {
-            print(number_of(e));
-            space();
-            print(at as u64);
-        }
-        Assembled::Made(n) => {
-            print(0);
-            space();
-            print(n as u64);
-            space();
-            listed(&table, n);
-        }
-    }
-    end_line();
-}
-
-// The same for the first `length` bytes of a source.
-fn trip_part(source: &[u8], length: usize) {
-    if length <= source.len() {
-        trip(&source[..length]);
-    }
-}
-
-// Fills a slice with one text again and again.
-fn repeat(out: &mut [u8], text: &[u8]) {
-    if text.len() == 0 {
+    let mut table = [9u64; MAX_PROGRAM];
+    let told = assemble(source, &mut table);
+    if told.number != 0 {
+        say_both(told.number, told.value, b'\n');
         return;
     }
-    let mut at = 0;
-    while at < out.len() {
-        let n = digits::put_text(out, at, text);
-        at += n;
-    }
+    say_both(0, told.value, b' ');
+    listed(&table, told.value);
 }
 
-// Writes 257 labels of three letters, each with its colon.
-fn put_labels(out: &mut [u8]) {
-    let mut i: usize = 0;
-    while i < 257 {
-        digits::put_byte(out, 4 * i, 0, b'L');
-        digits::put_byte(out, 4 * i, 1, (97 + i / 16) as u8);
-        digits::put_byte(out, 4 * i, 2, (97 + i % 16) as u8);
-        digits::put_byte(out, 4 * i, 3, b':');
+// The sources of an input, each up to a `;` that ends its line.
+fn trips(input: &[u8]) {
+    let mut start = 0;
+    let mut i = 0;
+    while i < input.len() {
+        if input[i] == b';' {
+            if start <= i {
+                trip(&input[start..i]);
+            }
+            start = i + 2;
+        }
         i += 1;
     }
 }
 
-// Sources of one kind of instruction each, and their operands at the ends of their ranges.
-fn operands() {
-    trip(b"");
-    trip(b"PUSHIMM 6 PUSHIMM 4 CMP STOP");
-    trip(b"PUSHIMM 2147483647 PUSHIMM -2147483648");
-    trip(b"PUSHIMM 2147483648");
-    trip(b"STOP PUSHIMM -2147483649");
-    trip(b"PUSHIMM 0000000007");
-    trip(b"PUSHIMM 00000000007");
-    trip(b"PUSHIMM -0000000007 PUSHIMM -0");
-    trip(b"PUSHIMM -");
-    trip(b"PUSHIMMF #7fC0abcd PUSHIMMF #00000000");
-    trip(b"PUSHIMMF #7fC0abc");
-    trip(b"PUSHIMMF #7fC0abcdE");
-    trip(b"PUSHIMMF #7fC0abcG");
-    trip(b"ADDSP -999 PUSHOFF 999 STOREOFF 0");
-    trip(b"ADDSP -1000");
-    trip(b"STOREOFF 1000");
-    trip(b"JUMP 0 JUMPC 4 JSR 3 PUSHIMMPA 2");
-    trip(b"JUMP 2 STOP JUMPC 4");
-    trip(b"JUMP -0 JUMP -1");
-    trip(b"JUMP 12345678901 FOO");
-    trip(b"JUMP 12345678901");
-    trip(b"STOP JUMP");
-}
-
-// Labels, comments, and tokens against each other.
-fn words() {
-    trip(b"a: JUMP b//x$\nb:PUSHIMMF #40200000 JUMP 3 ADDSP -2\nend: JUMP end");
-    trip(b"ADD: JUMP ADD ADD");
-    trip(b"x: x: STOP");
-    trip(b"JUMP y x: STOP");
-    trip(b"STOP JUMP a/ b");
-    trip(b"FOO@");
-    trip(b"5: STOP");
-    trip(b"a::");
-    trip(b"PUSHIMM 5:");
-    trip(b"stop");
-    trip(b"STOP//@\x00\xff\nADD/ /comment");
-    trip(b"JUMP abcdefghijklmnopqrstuvwxyz012345 abcdefghijklmnopqrstuvwxyz012345:");
-    trip(b"JUMP abcdefghijklmnopqrstuvwxyz0123456");
-    trip(b"abcdefghijklmnopqrstuvwxyz0123456:");
-}
-
-// The edges of the sizes.
-fn sizes() {
-    let mut labels = [0u8; 1028];
-    put_labels(&mut labels);
-    trip_part(&labels, 1024);
-    trip(&labels);
-    let mut stops = [0u8; 5125];
-    repeat(&mut stops, b"STOP ");
-    trip_part(&stops, 5120);
-    trip(&stops);
-    let mut longest = [0u8; 20480];
-    repeat(&mut longest, b"PUSHIMM -2147483648 ");
+// Blanks alone: the longest source, and one that is too long.
+fn blanks() {
+    let longest = [b' '; MAX_SOURCE];
     trip(&longest);
-    let blanks = [32u8; 65537];
-    trip_part(&blanks, 65536);
-    trip(&blanks);
+    let longer = [b' '; MAX_SOURCE + 1];
+    trip(&longer);
 }
 
-// The number of a listing's refusal, or 0, for a table whose first place is given and whose others are 0.
-fn list_one(place: u64, n: usize, text: &mut [u8]) {
-    let mut table = [0u64; 1024];
+// Prints the number of a listing's refusal, or 0, for a table whose first place is given and whose others are 0.
+fn list_place(place: u64, n: usize, text: &mut [u8]) {
+    let mut table = [0u64; MAX_PROGRAM];
     table[0] = place;
-    let answer = lister::list(&table, n, text);
-    match answer {
-        Listed::Failed(e) => print(number_of(e)),
-        Listed::Told(length) => print(0),
-    }
-    end_line();
+    let told = list(&table, n, text);
+    say(told.number, b'\n');
+}
+
+fn list_one(place: u64, n: usize) {
+    let mut text = [0u8; LISTING_SIZE];
+    list_place(place, n, &mut text);
+}
+
+// The same into an output one byte short.
+fn list_short(place: u64, n: usize) {
+    let mut text = [0u8; LISTING_SIZE - 1];
+    list_place(place, n, &mut text);
 }
 
 // The lister's refusals: an output one byte short, before a broken table; a code above 49; a target behind the end; an operand of STOP; a place
 // that is used and is not in the program.
 fn refusals() {
-    let mut short = [0u8; 20479];
-    let mut text = [0u8; 20480];
-    list_one(0, 1, &mut short);
-    list_one(214748364800, 1, &mut short);
-    list_one(214748364800, 1, &mut text);
-    list_one(188978561025, 1, &mut text);
-    list_one(188978561026, 1, &mut text);
-    list_one(1, 1, &mut text);
-    list_one(4294967297, 0, &mut text);
-    list_one(0, 1025, &mut text);
+    list_short(0, 1);
+    list_short(0x32_0000_0000, 1);
+    list_one(0x32_0000_0000, 1);
+    list_one(0x2c_0000_0001, 1);
+    list_one(0x2c_0000_0002, 1);
+    list_one(1, 1);
+    list_one(0x1_0000_0001, 0);
+    list_one(0, MAX_PROGRAM + 1);
 }
 
 fn main() {
-    operands();
-    words();
-    sizes();
+    let mut input = io::large_buffer();
+    let n = io::read_full(STDIN_FILENO, &mut input);
+    trips(&input[..n]);
+    blanks();
     refusals();
 }

@@ -1,30 +1,33 @@
-// Runs the published programs of document 004 in the slides' order, and the complaint. What it writes is held to what an independent
-// interpreter of document 01 prints for the same sources (`bench/teaching.py`).
-mod absolute;
-mod calls;
+// Runs the published programs of document 004 in the slides' order, and the complaint. The programs are those of standard input, each with its
+// name behind it in a line that `~` begins; their texts are the slides' own, as `bench/teaching` has them. What it writes is held to what an
+// independent interpreter of document 01 prints for the same sources (`bench/teaching.py`).
+use libc::STDIN_FILENO;
+
 mod complaint;
-mod control;
-mod locals;
-mod recursion;
 mod show;
-mod sums;
+
+fn programs(input: &[u8]) {
+    let mut start = 0;
+    let mut name = 0;
+    let mut i = 0;
+    while i < input.len() {
+        if input[i] == b'~' {
+            name = i + 1;
+        } else {
+            if input[i] == b'\n' {
+                if start < name {
+                    show::show(&input[name..i], &input[start..name - 1]);
+                    start = i + 1;
+                }
+            }
+        }
+        i += 1;
+    }
+}
 
 fn main() {
-    sums::sum();
-    sums::product();
-    locals::xy_first();
-    locals::xy_addsp();
-    locals::xy_link();
-    locals::addsp();
-    absolute::abs_number();
-    absolute::abs_label();
-    absolute::abs_jump();
-    control::conditional();
-    control::simple_loop();
-    control::loop_better();
-    calls::call();
-    calls::abs_call();
-    recursion::factorial();
-    recursion::power();
+    let mut input = io::large_buffer();
+    let n = io::read_full(STDIN_FILENO, &mut input);
+    programs(&input[..n]);
     complaint::complaint();
 }

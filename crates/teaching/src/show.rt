@@ -6,7 +6,7 @@ pub(crate) fn show(name: &[u8], source: &[u8]) {
     io::write_all(STDOUT_FILENO, b"program ");
     io::write_all(STDOUT_FILENO, name);
     io::write_all(STDOUT_FILENO, b"\n");
-    let mut out = [0u8; 32768];
+    let mut out = [0u8; 32_768];
     let told = console::print(source, &mut out);
     io::write_all(STDOUT_FILENO, &out[..told]);
 }

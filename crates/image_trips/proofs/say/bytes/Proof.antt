@@ -1,39 +1,36 @@
--- Assumes nothing.
-use Prim.Native.Nat.{_-_, _≤_}
-use native.Mathlib.Omega.{arith}
+-- `bytes` is safe and ends: the image gets shorter. Assumes nothing.
+use Prim.Native.Nat.{_≤_, _-_}
+use lib.ListN.{length}
 use borrow.Author.Needs.{needs}
 use Rattle.image_trips.proofs.say.bytes.Statement.{statement}
 use Rattle.image_trips.proofs.say.bytes.Tie as tie
 
 abbrev Inv-loop : tie.InvT-loop
-Inv-loop image n i₀ i = i ≤ n
+Inv-loop image n seen₀ i₀ seen i = i ≤ length image
 
 abbrev μ-loop : tie.MeasureT-loop
-μ-loop image n i₀ i = n - i
+μ-loop image n seen₀ i₀ seen i = length image - i
 
 loop-holds : tie.Need-loop-holds Inv-loop μ-loop
-loop-holds c = omega arith
+loop-holds c = search needs
 
-shared-slice-read-byte : tie.Need-shared-slice-read-byte Inv-loop μ-loop
-shared-slice-read-byte c = omega arith
+shared-slice-read-wide : tie.Need-shared-slice-read-wide Inv-loop μ-loop
+shared-slice-read-wide c = search needs
 
-byte-requires : tie.Need-byte-requires Inv-loop μ-loop
-byte-requires c κs = search needs
+wide-requires : tie.Need-wide-requires Inv-loop μ-loop
+wide-requires c κs = search needs
+
+see-requires : tie.Need-see-requires Inv-loop μ-loop
+see-requires c κs = search needs
 
 add-i : tie.Need-add-i Inv-loop μ-loop
-add-i c = omega arith
+add-i c = search needs
 
 loop-less : tie.Need-loop-less Inv-loop μ-loop
-loop-less c = omega arith
+loop-less c = search needs
 
 loop-again : tie.Need-loop-again Inv-loop μ-loop
-loop-again c = omega arith
-
-bytes-are-requires : tie.Need-bytes-are-requires Inv-loop μ-loop
-bytes-are-requires c κs = search needs
-
-bytes-are-requires-2 : tie.Need-bytes-are-requires-2 Inv-loop μ-loop
-bytes-are-requires-2 c κs = search needs
+loop-again c = search needs
 
 rest-requires : tie.Need-rest-requires Inv-loop μ-loop
 rest-requires c κs = search needs
@@ -48,12 +45,11 @@ bytes-spec =
     Inv-loop
     μ-loop
     loop-holds
-    shared-slice-read-byte
-    byte-requires
+    shared-slice-read-wide
+    wide-requires
+    see-requires
     add-i
     loop-less
     loop-again
-    bytes-are-requires
-    bytes-are-requires-2
     rest-requires
     returns)

@@ -1,42 +1,36 @@
--- Assumes nothing.
-use Prim.Native.Nat.{_-_, _≤_}
-use native.Mathlib.Omega.{arith}
+-- `places` is safe and ends: the table gets shorter. Assumes nothing.
+use Prim.Native.Nat.{_≤_, _-_}
+use lib.ListN.{length}
 use borrow.Author.Needs.{needs}
 use Rattle.image_trips.proofs.say.places.Statement.{statement}
 use Rattle.image_trips.proofs.say.places.Tie as tie
 
 abbrev Inv-loop : tie.InvT-loop
-Inv-loop table n i₀ i = i ≤ n
+Inv-loop table n seen₀ i₀ seen i = i ≤ length table
 
 abbrev μ-loop : tie.MeasureT-loop
-μ-loop table n i₀ i = n - i
+μ-loop table n seen₀ i₀ seen i = length table - i
 
 loop-holds : tie.Need-loop-holds Inv-loop μ-loop
-loop-holds c = omega arith
+loop-holds c = search needs
 
-mul-place : tie.Need-mul-place Inv-loop μ-loop
-mul-place c = omega arith
+mul-see : tie.Need-mul-see Inv-loop μ-loop
+mul-see c = search needs
 
-shared-slice-read-place : tie.Need-shared-slice-read-place Inv-loop μ-loop
-shared-slice-read-place c = omega arith
+shared-slice-read-see : tie.Need-shared-slice-read-see Inv-loop μ-loop
+shared-slice-read-see c = search needs
 
-place-requires : tie.Need-place-requires Inv-loop μ-loop
-place-requires c κs = search needs
+see-requires : tie.Need-see-requires Inv-loop μ-loop
+see-requires c κs = search needs
 
 add-i : tie.Need-add-i Inv-loop μ-loop
-add-i c = omega arith
+add-i c = search needs
 
 loop-less : tie.Need-loop-less Inv-loop μ-loop
-loop-less c = omega arith
+loop-less c = search needs
 
 loop-again : tie.Need-loop-again Inv-loop μ-loop
-loop-again c = omega arith
-
-places-are-requires : tie.Need-places-are-requires Inv-loop μ-loop
-places-are-requires c κs = search needs
-
-places-are-requires-2 : tie.Need-places-are-requires-2 Inv-loop μ-loop
-places-are-requires-2 c κs = search needs
+loop-again c = search needs
 
 rest-requires : tie.Need-rest-requires Inv-loop μ-loop
 rest-requires c κs = search needs
@@ -51,13 +45,11 @@ places-spec =
     Inv-loop
     μ-loop
     loop-holds
-    mul-place
-    shared-slice-read-place
-    place-requires
+    mul-see
+    shared-slice-read-see
+    see-requires
     add-i
     loop-less
     loop-again
-    places-are-requires
-    places-are-requires-2
     rest-requires
     returns)

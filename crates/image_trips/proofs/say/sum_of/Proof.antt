@@ -1,4 +1,4 @@
--- Assumes nothing.
+-- `sum_of` is safe and ends: the sum stays below a million. Assumes nothing.
 use Prim.Native.Nat.{_-_, _<_}
 use native.Mathlib.Omega.{arith}
 use borrow.Author.Needs.{needs}
