@@ -142,8 +142,8 @@ pub(crate) fn carry(
 {
     let shape = d.shape;
     match shape {
-        Shape::Jump => jump(r, d.pc, d.sp, history),
         Shape::Write => write(r, d, bits, tags, history),
+        Shape::Jump => jump(r, d.pc, d.sp, history),
         Shape::Rare => carry_rare(r, d, bits, tags, history),
         Shape::TooFewValues => turn::refused(MachineRefusal::TooFewValues, r),
         Shape::WrongTag => turn::refused(MachineRefusal::WrongTag, r),

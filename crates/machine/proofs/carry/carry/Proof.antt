@@ -14,16 +14,16 @@ use Rattle.machine.proofs.carry.carry.Tie as tie
 enum-told : tie.Need-enum-told
 enum-told c = search needs
 
-jump-requires : tie.Need-jump-requires
-jump-requires c κs =
-    let o = c .before .before .before .before .before .before .pre (jumps (c .before .before .before .before .before .before .args .r) (c .before .before .before .before .before .before .args .d .pc) (c .before .before .before .before .before .before .args .d .sp)) (planned-as (c .before .before .before .before .before .before .args .r) (memory (c .before .before .before .before .before .before .args .bits .now) (c .before .before .before .before .before .before .args .tags .now) (c .before .before .before .before .before .before .args .history .now)) (c .before .before .before .before .before .before .args .d) Jump (c .before .enum-told .given .1)) in
-    (o .used, o .places)
+write-requires : tie.Need-write-requires
+write-requires c κs = c .before .before .before .before .before .before .before .before .pre (writes (c .before .before .before .before .before .before .before .before .args .r) (c .before .before .before .before .before .before .before .before .args .d)) (planned-as (c .before .before .before .before .before .before .before .before .args .r) (memory (c .before .before .before .before .before .before .before .before .args .bits .now) (c .before .before .before .before .before .before .before .before .args .tags .now) (c .before .before .before .before .before .before .before .before .args .history .now)) (c .before .before .before .before .before .before .before .before .args .d) Write (c .before .before .before .enum-told .given .1))
 
 enum-told-2 : tie.Need-enum-told-2
 enum-told-2 c = search needs
 
-write-requires : tie.Need-write-requires
-write-requires c κs = c .before .before .before .before .before .before .before .before .pre (writes (c .before .before .before .before .before .before .before .before .args .r) (c .before .before .before .before .before .before .before .before .args .d)) (planned-as (c .before .before .before .before .before .before .before .before .args .r) (memory (c .before .before .before .before .before .before .before .before .args .bits .now) (c .before .before .before .before .before .before .before .before .args .tags .now) (c .before .before .before .before .before .before .before .before .args .history .now)) (c .before .before .before .before .before .before .before .before .args .d) Write (c .before .before .before .enum-told2 .given .1))
+jump-requires : tie.Need-jump-requires
+jump-requires c κs =
+    let o = c .before .before .before .before .before .before .pre (jumps (c .before .before .before .before .before .before .args .r) (c .before .before .before .before .before .before .args .d .pc) (c .before .before .before .before .before .before .args .d .sp)) (planned-as (c .before .before .before .before .before .before .args .r) (memory (c .before .before .before .before .before .before .args .bits .now) (c .before .before .before .before .before .before .args .tags .now) (c .before .before .before .before .before .before .args .history .now)) (c .before .before .before .before .before .before .args .d) Jump (c .before .enum-told2 .given .1)) in
+    (o .used, o .places)
 
 enum-told-3 : tie.Need-enum-told-3
 enum-told-3 c = search needs
@@ -58,20 +58,20 @@ refused-requires-4 c κs = search needs
 same-length : tie.Need-same-length
 same-length c = search needs
 
-returns : tie.Need-returns
-returns c = c .before .before .jump .ensures (c .before .before .before .before .before .before .before .before .before .args .bits .now) (c .before .before .before .before .before .before .before .before .before .args .tags .now) ∙ ap (λ (z : Decision). carried (c .before .before .before .before .before .before .before .before .before .args .r) (memory (c .before .before .before .before .before .before .before .before .before .args .bits .now) (c .before .before .before .before .before .before .before .before .before .args .tags .now) (c .before .before .before .before .before .before .before .before .before .args .history .now)) (fitted (c .before .before .before .before .before .before .before .before .before .args .r) z)) (sym (planned-as (c .before .before .before .before .before .before .before .before .before .args .r) (memory (c .before .before .before .before .before .before .before .before .before .args .bits .now) (c .before .before .before .before .before .before .before .before .before .args .tags .now) (c .before .before .before .before .before .before .before .before .before .args .history .now)) (c .before .before .before .before .before .before .before .before .before .args .d) Jump (c .before .before .before .before .enum-told .given .1)))
-
 same-length-2 : tie.Need-same-length-2
 same-length-2 c = search needs
 
 same-length-3 : tie.Need-same-length-3
 same-length-3 c = search needs
 
+returns : tie.Need-returns
+returns c = c .before .before .before .before .before .before .write .ensures ∙ ap (λ (z : Decision). carried (c .before .before .before .before .before .before .before .before .before .before .before .before .before .before .before .args .r) (memory (c .before .before .before .before .before .before .before .before .before .before .before .before .before .before .before .args .bits .now) (c .before .before .before .before .before .before .before .before .before .before .before .before .before .before .before .args .tags .now) (c .before .before .before .before .before .before .before .before .before .before .before .before .before .before .before .args .history .now)) (fitted (c .before .before .before .before .before .before .before .before .before .before .before .before .before .before .before .args .r) z)) (sym (planned-as (c .before .before .before .before .before .before .before .before .before .before .before .before .before .before .before .args .r) (memory (c .before .before .before .before .before .before .before .before .before .before .before .before .before .before .before .args .bits .now) (c .before .before .before .before .before .before .before .before .before .before .before .before .before .before .before .args .tags .now) (c .before .before .before .before .before .before .before .before .before .before .before .before .before .before .before .args .history .now)) (c .before .before .before .before .before .before .before .before .before .before .before .before .before .before .before .args .d) Write (c .before .before .before .before .before .before .before .before .before .before .enum-told .given .1)))
+
 same-length-4 : tie.Need-same-length-4
 same-length-4 c = search needs
 
 returns-2 : tie.Need-returns-2
-returns-2 c = c .before .before .before .before .before .before .write .ensures ∙ ap (λ (z : Decision). carried (c .before .before .before .before .before .before .before .before .before .before .before .before .before .before .before .args .r) (memory (c .before .before .before .before .before .before .before .before .before .before .before .before .before .before .before .args .bits .now) (c .before .before .before .before .before .before .before .before .before .before .before .before .before .before .before .args .tags .now) (c .before .before .before .before .before .before .before .before .before .before .before .before .before .before .before .args .history .now)) (fitted (c .before .before .before .before .before .before .before .before .before .before .before .before .before .before .before .args .r) z)) (sym (planned-as (c .before .before .before .before .before .before .before .before .before .before .before .before .before .before .before .args .r) (memory (c .before .before .before .before .before .before .before .before .before .before .before .before .before .before .before .args .bits .now) (c .before .before .before .before .before .before .before .before .before .before .before .before .before .before .before .args .tags .now) (c .before .before .before .before .before .before .before .before .before .before .before .before .before .before .before .args .history .now)) (c .before .before .before .before .before .before .before .before .before .before .before .before .before .before .before .args .d) Write (c .before .before .before .before .before .before .before .before .before .before .enum-told2 .given .1)))
+returns-2 c = c .before .before .jump .ensures (c .before .before .before .before .before .before .before .before .before .args .bits .now) (c .before .before .before .before .before .before .before .before .before .args .tags .now) ∙ ap (λ (z : Decision). carried (c .before .before .before .before .before .before .before .before .before .args .r) (memory (c .before .before .before .before .before .before .before .before .before .args .bits .now) (c .before .before .before .before .before .before .before .before .before .args .tags .now) (c .before .before .before .before .before .before .before .before .before .args .history .now)) (fitted (c .before .before .before .before .before .before .before .before .before .args .r) z)) (sym (planned-as (c .before .before .before .before .before .before .before .before .before .args .r) (memory (c .before .before .before .before .before .before .before .before .before .args .bits .now) (c .before .before .before .before .before .before .before .before .before .args .tags .now) (c .before .before .before .before .before .before .before .before .before .args .history .now)) (c .before .before .before .before .before .before .before .before .before .args .d) Jump (c .before .before .before .before .enum-told2 .given .1)))
 
 same-length-5 : tie.Need-same-length-5
 same-length-5 c = search needs
@@ -102,9 +102,9 @@ carry-spec =
     tie.close
     (tie.spec
     enum-told
-    jump-requires
-    enum-told-2
     write-requires
+    enum-told-2
+    jump-requires
     enum-told-3
     carry-rare-requires
     enum-told-4
@@ -116,9 +116,9 @@ carry-spec =
     enum-told-7
     refused-requires-4
     same-length
-    returns
     same-length-2
     same-length-3
+    returns
     same-length-4
     returns-2
     same-length-5
