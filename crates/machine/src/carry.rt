@@ -1,8 +1,9 @@
-// Carrying out a plan: "7: new SP would be N or more", then 8, and then what is kept and written. Most plans jump or write one cell, and have a
+// Carrying out a plan: 7, then 8, and then what is kept and written. Most plans jump or write one cell, and have a
 // function of their own; the rarer ones go by their effect.
 ghost use mathlib.Core.Path.{_≡_};
 ghost use mathlib.Core.List.{List, [], _∷_};
 ghost use Prim.Native.Nat.{ℕ, _+_, _<_, _≤_};
+ghost use lib.Dec.{leb};
 ghost use lib.ListN.{length, getD, set};
 ghost use Rattle.rules.specs.Lists.{splice};
 ghost use Rattle.rules.specs.Places.{cellPlace, stepPlace};
@@ -26,6 +27,13 @@ use rules::Effect;
 use rules::MachineRefusal;
 use rules::Registers;
 
+// "7: new SP would be N or more"
+fn is_high(r: Registers, sp: usize) -> bool
+    ensures { λ a. ⌜ a ≡ leb (r .n) sp ⌝ }
+{
+    r.n <= sp
+}
+
 // PC, SP and U are set.
 fn moved_to(r: Registers, pc: usize, sp: usize, used: usize) -> Turn
     ensures { λ a. ⌜ answerOf a ≡ Next (record { n = r .n; h = r .h; pc = pc; sp = sp; fbr = r .fbr; halt = 0; used = used }) ⌝ }
@@ -47,7 +55,7 @@ fn jump(r: Registers, pc: usize, sp: usize, history: &mut [u64]) -> Turn
     ensures { λ a. ⌜ ((bits tags : List ℕ) → stepped (answerOf a) bits tags (now (history .exit)) ≡ carried r (memory bits tags (now (history .entry))) (fitted r (Does (jumps r pc sp)))) ⌝ }
 {
     let used = r.used;
-    if r.n <= sp {
+    if is_high(r, sp) {
         return turn::refused(MachineRefusal::StackFull, r);
     }
     if r.h == 0 {
@@ -89,7 +97,7 @@ fn write(r: Registers, d: Plan, bits: &mut [u32], tags: &mut [u8], history: &mut
     ensures { λ a. ⌜ stepped (answerOf a) (now (bits .exit)) (now (tags .exit)) (now (history .exit)) ≡ carried r (memory (now (bits .entry)) (now (tags .entry)) (now (history .entry))) (fitted r (Does (writes r d))) ⌝ }
 {
     let used = r.used;
-    if r.n <= d.sp {
+    if is_high(r, d.sp) {
         return turn::refused(MachineRefusal::StackFull, r);
     }
     if r.h == 0 {
@@ -118,7 +126,7 @@ fn carry_rare(r: Registers, d: Plan, bits: &mut [u32], tags: &mut [u8], history:
     requires { ⌜ Open r (rarely (d .rare) r (cellAt (memory (now bits) (now tags) (now history)) (record { 0 = d .at })) d) (memory (now bits) (now tags) (now history)) ⌝ }
     ensures { λ a. ⌜ stepped (answerOf a) (now (bits .exit)) (now (tags .exit)) (now (history .exit)) ≡ carried r (memory (now (bits .entry)) (now (tags .entry)) (now (history .entry))) (fitted r (Does (rarely (d .rare) r (cellAt (memory (now (bits .entry)) (now (tags .entry)) (now (history .entry))) (record { 0 = d .at })) d))) ⌝ }
 {
-    if r.n <= d.sp {
+    if is_high(r, d.sp) {
         return turn::refused(MachineRefusal::StackFull, r);
     }
     let e = effects::rare_effect(r, d, bits, tags);

@@ -22,11 +22,15 @@ refuse-requires : tie.Need-refuse-requires
 refuse-requires c κs = search needs
 
 returns : tie.Need-returns
-returns c m = c .moved .ensures m ∙ add-to (c .before .before .before .before .before .args .r) (c .before .before .before .before .before .args .offset) (c .before .before .to .given .0 .0) (rw (c .before .before .to .given .1) at (c .before .before .before .before .moved-by .ensures))
+returns c m =
+    let a = c .before .before .before .before .before .args in
+    c .moved .ensures m ∙ add-to (a .r) (a .offset) (c .before .before .to .given .0 .0) (rw (c .before .before .to .given .1) at (c .before .before .before .before .moved-by .ensures))
 
 returns-2 : tie.Need-returns-2
 unfolding planned
-returns-2 c m = ap (planned (c .before .before .before .before .args .r) m) (c .refuse .ensures) ∙ add-below (c .before .before .before .before .args .r) (c .before .before .before .before .args .offset) (rw (c .before .enum-told .given .1) at (c .before .before .before .moved-by .ensures))
+returns-2 c m =
+    let a = c .before .before .before .before .args in
+    ap (planned (a .r) m) (c .refuse .ensures) ∙ add-below (a .r) (a .offset) (rw (c .before .enum-told .given .1) at (c .before .before .before .moved-by .ensures))
 
 pub on-add-sp-spec : {M : Type 1} → statement M
 on-add-sp-spec =

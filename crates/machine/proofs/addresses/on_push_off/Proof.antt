@@ -19,7 +19,9 @@ result-requires c κs = search needs
 
 returns : tie.Need-returns
 unfolding planned
-returns c m = rw (c .result .ensures m, c .before .cell-at .ensures, frame-in (c .before .before .before .before .before .before .before .before .before .before .before .args .r) (c .before .before .before .before .before .before .before .before .before .before .before .args .offset) (c .before .before .before .before .before .before .before .before .before .before .before .args .r .sp) (c .before .before .before .before .before .before .to .given .0 .0) (rw (c .before .before .before .before .before .before .to .given .1) at (c .before .before .before .before .before .before .before .before .moved-by .ensures)) (c .before .before .if1 .taken), frame-at (c .before .before .before .before .before .before .before .before .before .before .before .args .r) (c .before .before .before .before .before .before .before .before .before .before .before .args .offset) (c .before .before .before .before .before .before .to .given .0 .0) (rw (c .before .before .before .before .before .before .to .given .1) at (c .before .before .before .before .before .before .before .before .moved-by .ensures)))
+returns c m =
+    let a = c .before .before .before .before .before .before .before .before .before .before .before .args in
+    rw (c .result .ensures m, c .before .cell-at .ensures, frame-in (a .r) (a .offset) (a .r .sp) (c .before .before .before .before .before .before .to .given .0 .0) (rw (c .before .before .before .before .before .before .to .given .1) at (c .before .before .before .before .before .before .before .before .moved-by .ensures)) (c .before .before .if1 .taken), frame-at (a .r) (a .offset) (c .before .before .before .before .before .before .to .given .0 .0) (rw (c .before .before .before .before .before .before .to .given .1) at (c .before .before .before .before .before .before .before .before .moved-by .ensures)))
 
 refuse-requires : tie.Need-refuse-requires
 refuse-requires c κs = search needs
@@ -32,11 +34,15 @@ refuse-requires-2 c κs = search needs
 
 returns-2 : tie.Need-returns-2
 unfolding planned
-returns-2 c m = rw (c .refuse .ensures, frame-out (c .before .before .before .before .before .before .before .before .before .before .args .r) (c .before .before .before .before .before .before .before .before .before .before .args .offset) (c .before .before .before .before .before .before .before .before .before .before .args .r .sp) (c .before .before .before .before .before .to .given .0 .0) (rw (c .before .before .before .before .before .to .given .1) at (c .before .before .before .before .before .before .before .moved-by .ensures)) (c .before .if1 .left))
+returns-2 c m =
+    let a = c .before .before .before .before .before .before .before .before .before .before .args in
+    rw (c .refuse .ensures, frame-out (a .r) (a .offset) (a .r .sp) (c .before .before .before .before .before .to .given .0 .0) (rw (c .before .before .before .before .before .to .given .1) at (c .before .before .before .before .before .before .before .moved-by .ensures)) (c .before .if1 .left))
 
 returns-3 : tie.Need-returns-3
 unfolding planned
-returns-3 c m = rw (c .refuse2 .ensures, frame-below (c .before .before .before .before .before .before .args .r) (c .before .before .before .before .before .before .args .offset) (c .before .before .before .before .before .before .args .r .sp) (rw (c .before .enum-told .given .1) at (c .before .before .before .moved-by .ensures)))
+returns-3 c m =
+    let a = c .before .before .before .before .before .before .args in
+    rw (c .refuse2 .ensures, frame-below (a .r) (a .offset) (a .r .sp) (rw (c .before .enum-told .given .1) at (c .before .before .before .moved-by .ensures)))
 
 pub on-push-off-spec : {M : Type 1} → statement M
 on-push-off-spec =

@@ -25,7 +25,9 @@ stored-requires c κs = search needs
 
 returns-2 : tie.Need-returns-2
 unfolding planned
-returns-2 c m = rw (c .stored .ensures m, le-leb _ _ (c .before .before .before .before .before .before .before .before .if1 .left), frame-in (c .before .before .before .before .before .before .before .before .before .before .args .r) (c .before .before .before .before .before .before .before .before .before .before .args .offset) (c .before .before .before .before .before .before .before .before .before .before .args .r .sp - 1) (c .before .before .before .before .before .to .given .0 .0) (rw (c .before .before .before .before .before .to .given .1) at (c .before .before .before .before .before .before .before .moved-by .ensures)) (c .before .if2 .taken), frame-at (c .before .before .before .before .before .before .before .before .before .before .args .r) (c .before .before .before .before .before .before .before .before .before .before .args .offset) (c .before .before .before .before .before .to .given .0 .0) (rw (c .before .before .before .before .before .to .given .1) at (c .before .before .before .before .before .before .before .moved-by .ensures)))
+returns-2 c m =
+    let a = c .before .before .before .before .before .before .before .before .before .before .args in
+    rw (c .stored .ensures m, le-leb _ _ (c .before .before .before .before .before .before .before .before .if1 .left), frame-in (a .r) (a .offset) (a .r .sp - 1) (c .before .before .before .before .before .to .given .0 .0) (rw (c .before .before .before .before .before .to .given .1) at (c .before .before .before .before .before .before .before .moved-by .ensures)) (c .before .if2 .taken), frame-at (a .r) (a .offset) (c .before .before .before .before .before .to .given .0 .0) (rw (c .before .before .before .before .before .to .given .1) at (c .before .before .before .before .before .before .before .moved-by .ensures)))
 
 refuse-requires-2 : tie.Need-refuse-requires-2
 refuse-requires-2 c κs = search needs
@@ -38,11 +40,15 @@ refuse-requires-3 c κs = search needs
 
 returns-3 : tie.Need-returns-3
 unfolding planned
-returns-3 c m = rw (c .refuse2 .ensures, le-leb _ _ (c .before .before .before .before .before .before .before .before .if1 .left), frame-out (c .before .before .before .before .before .before .before .before .before .before .args .r) (c .before .before .before .before .before .before .before .before .before .before .args .offset) (c .before .before .before .before .before .before .before .before .before .before .args .r .sp - 1) (c .before .before .before .before .before .to .given .0 .0) (rw (c .before .before .before .before .before .to .given .1) at (c .before .before .before .before .before .before .before .moved-by .ensures)) (c .before .if2 .left))
+returns-3 c m =
+    let a = c .before .before .before .before .before .before .before .before .before .before .args in
+    rw (c .refuse2 .ensures, le-leb _ _ (c .before .before .before .before .before .before .before .before .if1 .left), frame-out (a .r) (a .offset) (a .r .sp - 1) (c .before .before .before .before .before .to .given .0 .0) (rw (c .before .before .before .before .before .to .given .1) at (c .before .before .before .before .before .before .before .moved-by .ensures)) (c .before .if2 .left))
 
 returns-4 : tie.Need-returns-4
 unfolding planned
-returns-4 c m = rw (c .refuse3 .ensures, le-leb _ _ (c .before .before .before .before .if1 .left), frame-below (c .before .before .before .before .before .before .args .r) (c .before .before .before .before .before .before .args .offset) (c .before .before .before .before .before .before .args .r .sp - 1) (rw (c .before .enum-told .given .1) at (c .before .before .before .moved-by .ensures)))
+returns-4 c m =
+    let a = c .before .before .before .before .before .before .args in
+    rw (c .refuse3 .ensures, le-leb _ _ (c .before .before .before .before .if1 .left), frame-below (a .r) (a .offset) (a .r .sp - 1) (rw (c .before .enum-told .given .1) at (c .before .before .before .moved-by .ensures)))
 
 pub on-store-off-spec : {M : Type 1} → statement M
 on-store-off-spec =

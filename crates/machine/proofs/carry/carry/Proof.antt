@@ -15,21 +15,27 @@ enum-told : tie.Need-enum-told
 enum-told c = search needs
 
 write-requires : tie.Need-write-requires
-write-requires c κs = c .before .before .before .before .before .before .before .before .pre (writes (c .before .before .before .before .before .before .before .before .args .r) (c .before .before .before .before .before .before .before .before .args .d)) (planned-as (c .before .before .before .before .before .before .before .before .args .r) (memory (c .before .before .before .before .before .before .before .before .args .bits .now) (c .before .before .before .before .before .before .before .before .args .tags .now) (c .before .before .before .before .before .before .before .before .args .history .now)) (c .before .before .before .before .before .before .before .before .args .d) Write (c .before .before .before .enum-told .given .1))
+write-requires c κs =
+    let a = c .before .before .before .before .before .before .before .before .args in
+    c .before .before .before .before .before .before .before .before .pre (writes (a .r) (a .d)) (planned-as (a .r) (memory (a .bits .now) (a .tags .now) (a .history .now)) (a .d) Write (c .before .before .before .enum-told .given .1))
 
 enum-told-2 : tie.Need-enum-told-2
 enum-told-2 c = search needs
 
 jump-requires : tie.Need-jump-requires
 jump-requires c κs =
-    let o = c .before .before .before .before .before .before .pre (jumps (c .before .before .before .before .before .before .args .r) (c .before .before .before .before .before .before .args .d .pc) (c .before .before .before .before .before .before .args .d .sp)) (planned-as (c .before .before .before .before .before .before .args .r) (memory (c .before .before .before .before .before .before .args .bits .now) (c .before .before .before .before .before .before .args .tags .now) (c .before .before .before .before .before .before .args .history .now)) (c .before .before .before .before .before .before .args .d) Jump (c .before .enum-told2 .given .1)) in
+    let a = c .before .before .before .before .before .before .args in
+    let o = c .before .before .before .before .before .before .pre (jumps (a .r) (a .d .pc) (a .d .sp)) (planned-as (a .r) (memory (a .bits .now) (a .tags .now) (a .history .now)) (a .d) Jump (c .before .enum-told2 .given .1)) in
     (o .used, o .places)
 
 enum-told-3 : tie.Need-enum-told-3
 enum-told-3 c = search needs
 
 carry-rare-requires : tie.Need-carry-rare-requires
-carry-rare-requires c κs = c .before .before .before .before .before .before .before .before .pre (rarely (c .before .before .before .before .before .before .before .before .args .d .rare) (c .before .before .before .before .before .before .before .before .args .r) (cellAt (memory (c .before .before .before .before .before .before .before .before .args .bits .now) (c .before .before .before .before .before .before .before .before .args .tags .now) (c .before .before .before .before .before .before .before .before .args .history .now)) (record { 0 = c .before .before .before .before .before .before .before .before .args .d .at })) (c .before .before .before .before .before .before .before .before .args .d)) (planned-as (c .before .before .before .before .before .before .before .before .args .r) (memory (c .before .before .before .before .before .before .before .before .args .bits .now) (c .before .before .before .before .before .before .before .before .args .tags .now) (c .before .before .before .before .before .before .before .before .args .history .now)) (c .before .before .before .before .before .before .before .before .args .d) Rare (c .before .before .before .enum-told3 .given .1))
+carry-rare-requires c κs =
+    let a = c .before .before .before .before .before .before .before .before .args in
+    let m = memory (a .bits .now) (a .tags .now) (a .history .now) in
+    c .before .before .before .before .before .before .before .before .pre (rarely (a .d .rare) (a .r) (cellAt m (record { 0 = a .d .at })) (a .d)) (planned-as (a .r) m (a .d) Rare (c .before .before .before .enum-told3 .given .1))
 
 enum-told-4 : tie.Need-enum-told-4
 enum-told-4 c = search needs
@@ -65,13 +71,19 @@ same-length-3 : tie.Need-same-length-3
 same-length-3 c = search needs
 
 returns : tie.Need-returns
-returns c = c .before .before .before .before .before .before .write .ensures ∙ ap (λ (z : Decision). carried (c .before .before .before .before .before .before .before .before .before .before .before .before .before .before .before .args .r) (memory (c .before .before .before .before .before .before .before .before .before .before .before .before .before .before .before .args .bits .now) (c .before .before .before .before .before .before .before .before .before .before .before .before .before .before .before .args .tags .now) (c .before .before .before .before .before .before .before .before .before .before .before .before .before .before .before .args .history .now)) (fitted (c .before .before .before .before .before .before .before .before .before .before .before .before .before .before .before .args .r) z)) (sym (planned-as (c .before .before .before .before .before .before .before .before .before .before .before .before .before .before .before .args .r) (memory (c .before .before .before .before .before .before .before .before .before .before .before .before .before .before .before .args .bits .now) (c .before .before .before .before .before .before .before .before .before .before .before .before .before .before .before .args .tags .now) (c .before .before .before .before .before .before .before .before .before .before .before .before .before .before .before .args .history .now)) (c .before .before .before .before .before .before .before .before .before .before .before .before .before .before .before .args .d) Write (c .before .before .before .before .before .before .before .before .before .before .enum-told .given .1)))
+returns c =
+    let a = c .before .before .before .before .before .before .before .before .before .before .before .before .before .before .before .args in
+    let m = memory (a .bits .now) (a .tags .now) (a .history .now) in
+    c .before .before .before .before .before .before .write .ensures ∙ ap (λ (z : Decision). carried (a .r) m (fitted (a .r) z)) (sym (planned-as (a .r) m (a .d) Write (c .before .before .before .before .before .before .before .before .before .before .enum-told .given .1)))
 
 same-length-4 : tie.Need-same-length-4
 same-length-4 c = search needs
 
 returns-2 : tie.Need-returns-2
-returns-2 c = c .before .before .jump .ensures (c .before .before .before .before .before .before .before .before .before .args .bits .now) (c .before .before .before .before .before .before .before .before .before .args .tags .now) ∙ ap (λ (z : Decision). carried (c .before .before .before .before .before .before .before .before .before .args .r) (memory (c .before .before .before .before .before .before .before .before .before .args .bits .now) (c .before .before .before .before .before .before .before .before .before .args .tags .now) (c .before .before .before .before .before .before .before .before .before .args .history .now)) (fitted (c .before .before .before .before .before .before .before .before .before .args .r) z)) (sym (planned-as (c .before .before .before .before .before .before .before .before .before .args .r) (memory (c .before .before .before .before .before .before .before .before .before .args .bits .now) (c .before .before .before .before .before .before .before .before .before .args .tags .now) (c .before .before .before .before .before .before .before .before .before .args .history .now)) (c .before .before .before .before .before .before .before .before .before .args .d) Jump (c .before .before .before .before .enum-told2 .given .1)))
+returns-2 c =
+    let a = c .before .before .before .before .before .before .before .before .before .args in
+    let m = memory (a .bits .now) (a .tags .now) (a .history .now) in
+    c .before .before .jump .ensures (a .bits .now) (a .tags .now) ∙ ap (λ (z : Decision). carried (a .r) m (fitted (a .r) z)) (sym (planned-as (a .r) m (a .d) Jump (c .before .before .before .before .enum-told2 .given .1)))
 
 same-length-5 : tie.Need-same-length-5
 same-length-5 c = search needs
@@ -83,19 +95,34 @@ same-length-7 : tie.Need-same-length-7
 same-length-7 c = search needs
 
 returns-3 : tie.Need-returns-3
-returns-3 c = c .before .before .before .before .before .before .carry-rare .ensures ∙ ap (λ (z : Decision). carried (c .before .before .before .before .before .before .before .before .before .before .before .before .before .before .before .args .r) (memory (c .before .before .before .before .before .before .before .before .before .before .before .before .before .before .before .args .bits .now) (c .before .before .before .before .before .before .before .before .before .before .before .before .before .before .before .args .tags .now) (c .before .before .before .before .before .before .before .before .before .before .before .before .before .before .before .args .history .now)) (fitted (c .before .before .before .before .before .before .before .before .before .before .before .before .before .before .before .args .r) z)) (sym (planned-as (c .before .before .before .before .before .before .before .before .before .before .before .before .before .before .before .args .r) (memory (c .before .before .before .before .before .before .before .before .before .before .before .before .before .before .before .args .bits .now) (c .before .before .before .before .before .before .before .before .before .before .before .before .before .before .before .args .tags .now) (c .before .before .before .before .before .before .before .before .before .before .before .before .before .before .before .args .history .now)) (c .before .before .before .before .before .before .before .before .before .before .before .before .before .before .before .args .d) Rare (c .before .before .before .before .before .before .before .before .before .before .enum-told3 .given .1)))
+returns-3 c =
+    let a = c .before .before .before .before .before .before .before .before .before .before .before .before .before .before .before .args in
+    let m = memory (a .bits .now) (a .tags .now) (a .history .now) in
+    c .before .before .before .before .before .before .carry-rare .ensures ∙ ap (λ (z : Decision). carried (a .r) m (fitted (a .r) z)) (sym (planned-as (a .r) m (a .d) Rare (c .before .before .before .before .before .before .before .before .before .before .enum-told3 .given .1)))
 
 returns-4 : tie.Need-returns-4
-returns-4 c = carried-refused (c .before .before .before .before .before .before .args .r) (memory (c .before .before .before .before .before .before .args .bits .now) (c .before .before .before .before .before .before .args .tags .now) (c .before .before .before .before .before .before .args .history .now)) _ refusal.TooFewValues _ (c .refused .ensures) (planned-as (c .before .before .before .before .before .before .args .r) (memory (c .before .before .before .before .before .before .args .bits .now) (c .before .before .before .before .before .before .args .tags .now) (c .before .before .before .before .before .before .args .history .now)) (c .before .before .before .before .before .before .args .d) TooFewValues (c .before .enum-told4 .given .1))
+returns-4 c =
+    let a = c .before .before .before .before .before .before .args in
+    let m = memory (a .bits .now) (a .tags .now) (a .history .now) in
+    carried-refused (a .r) m _ refusal.TooFewValues _ (c .refused .ensures) (planned-as (a .r) m (a .d) TooFewValues (c .before .enum-told4 .given .1))
 
 returns-5 : tie.Need-returns-5
-returns-5 c = carried-refused (c .before .before .before .before .before .before .args .r) (memory (c .before .before .before .before .before .before .args .bits .now) (c .before .before .before .before .before .before .args .tags .now) (c .before .before .before .before .before .before .args .history .now)) _ refusal.WrongTag _ (c .refused2 .ensures) (planned-as (c .before .before .before .before .before .before .args .r) (memory (c .before .before .before .before .before .before .args .bits .now) (c .before .before .before .before .before .before .args .tags .now) (c .before .before .before .before .before .before .args .history .now)) (c .before .before .before .before .before .before .args .d) WrongTag (c .before .enum-told5 .given .1))
+returns-5 c =
+    let a = c .before .before .before .before .before .before .args in
+    let m = memory (a .bits .now) (a .tags .now) (a .history .now) in
+    carried-refused (a .r) m _ refusal.WrongTag _ (c .refused2 .ensures) (planned-as (a .r) m (a .d) WrongTag (c .before .enum-told5 .given .1))
 
 returns-6 : tie.Need-returns-6
-returns-6 c = carried-refused (c .before .before .before .before .before .before .args .r) (memory (c .before .before .before .before .before .before .args .bits .now) (c .before .before .before .before .before .before .args .tags .now) (c .before .before .before .before .before .before .args .history .now)) _ refusal.NoResult _ (c .refused3 .ensures) (planned-as (c .before .before .before .before .before .before .args .r) (memory (c .before .before .before .before .before .before .args .bits .now) (c .before .before .before .before .before .before .args .tags .now) (c .before .before .before .before .before .before .args .history .now)) (c .before .before .before .before .before .before .args .d) NoResult (c .before .enum-told6 .given .1))
+returns-6 c =
+    let a = c .before .before .before .before .before .before .args in
+    let m = memory (a .bits .now) (a .tags .now) (a .history .now) in
+    carried-refused (a .r) m _ refusal.NoResult _ (c .refused3 .ensures) (planned-as (a .r) m (a .d) NoResult (c .before .enum-told6 .given .1))
 
 returns-7 : tie.Need-returns-7
-returns-7 c = carried-refused (c .before .before .before .before .before .before .args .r) (memory (c .before .before .before .before .before .before .args .bits .now) (c .before .before .before .before .before .before .args .tags .now) (c .before .before .before .before .before .before .args .history .now)) _ refusal.BadAddress _ (c .refused4 .ensures) (planned-as (c .before .before .before .before .before .before .args .r) (memory (c .before .before .before .before .before .before .args .bits .now) (c .before .before .before .before .before .before .args .tags .now) (c .before .before .before .before .before .before .args .history .now)) (c .before .before .before .before .before .before .args .d) BadAddress (c .before .enum-told7 .given .1))
+returns-7 c =
+    let a = c .before .before .before .before .before .before .args in
+    let m = memory (a .bits .now) (a .tags .now) (a .history .now) in
+    carried-refused (a .r) m _ refusal.BadAddress _ (c .refused4 .ensures) (planned-as (a .r) m (a .d) BadAddress (c .before .enum-told7 .given .1))
 
 pub carry-spec : {M : Type 1} → statement M
 carry-spec =

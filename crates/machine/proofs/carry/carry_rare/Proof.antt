@@ -2,7 +2,7 @@
 use Prim.Native.Nat.{_<_, _≤_}
 use mathlib.Core.Path.{_≡_, sym, ap, subst, _∙_}
 use native.Mathlib.Omega.{arith}
-use borrow.Author.Tests.{not-true, not-false}
+use borrow.Author.Tests.{leb-true, leb-false, not-true, not-false}
 use Rattle.rules.specs.State.{memory, cellAt}
 use Rattle.rules.specs.Commit.{roomFor}
 use Rattle.machine.specs.Fits.{Fits}
@@ -14,23 +14,30 @@ use borrow.Author.Needs.{needs}
 use Rattle.machine.proofs.carry.carry_rare.Statement.{statement}
 use Rattle.machine.proofs.carry.carry_rare.Tie as tie
 
+is-high-requires : tie.Need-is-high-requires
+is-high-requires c κs = search needs
+
 refused-requires : tie.Need-refused-requires
 refused-requires c κs = search needs
 
 returns : tie.Need-returns
 returns c =
-    let e = (rarely (c .before .before .before .before .before .before .before .args .d .rare) (c .before .before .before .before .before .before .before .args .r) (cellAt (memory (c .before .before .before .before .before .before .before .args .bits .now) (c .before .before .before .before .before .before .before .args .tags .now) (c .before .before .before .before .before .before .before .args .history .now)) (record { 0 = c .before .before .before .before .before .before .before .args .d .at })) (c .before .before .before .before .before .before .before .args .d)) in
-    let s : e .sp ≡ c .before .before .before .before .before .before .before .args .d .sp = rarely-sp (c .before .before .before .before .before .before .before .args .d .rare) (c .before .before .before .before .before .before .before .args .r) (cellAt (memory (c .before .before .before .before .before .before .before .args .bits .now) (c .before .before .before .before .before .before .before .args .tags .now) (c .before .before .before .before .before .before .before .args .history .now)) (record { 0 = c .before .before .before .before .before .before .before .args .d .at })) (c .before .before .before .before .before .before .before .args .d) in
-    carried-high (c .before .before .before .before .before .before .before .args .r) (memory (c .before .before .before .before .before .before .before .args .bits .now) (c .before .before .before .before .before .before .before .args .tags .now) (c .before .before .before .before .before .before .before .args .history .now)) _ e (c .refused .ensures) (omega (arith, s, c .before .if1 .taken))
+    let a = c .before .before .before .before .before .before .args in
+    let m = memory (a .bits .now) (a .tags .now) (a .history .now) in
+    let e = (rarely (a .d .rare) (a .r) (cellAt m (record { 0 = a .d .at })) (a .d)) in
+    let s : e .sp ≡ a .d .sp = rarely-sp (a .d .rare) (a .r) (cellAt m (record { 0 = a .d .at })) (a .d) in
+    carried-high (a .r) m _ e (c .refused .ensures) (let h = (leb-true (a .r .n) (a .d .sp) (sym (c .before .before .is-high .ensures) ∙ c .before .if1 .taken)) in omega (arith, s, h))
 
 rare-effect-requires : tie.Need-rare-effect-requires
 rare-effect-requires c κs =
-    let e = (rarely (c .before .before .before .before .before .before .before .before .args .d .rare) (c .before .before .before .before .before .before .before .before .args .r) (cellAt (memory (c .before .before .before .before .before .before .before .before .args .bits .now) (c .before .before .before .before .before .before .before .before .args .tags .now) (c .before .before .before .before .before .before .before .before .args .history .now)) (record { 0 = c .before .before .before .before .before .before .before .before .args .d .at })) (c .before .before .before .before .before .before .before .before .args .d)) in
-    let s : e .sp ≡ c .before .before .before .before .before .before .before .before .args .d .sp = rarely-sp (c .before .before .before .before .before .before .before .before .args .d .rare) (c .before .before .before .before .before .before .before .before .args .r) (cellAt (memory (c .before .before .before .before .before .before .before .before .args .bits .now) (c .before .before .before .before .before .before .before .before .args .tags .now) (c .before .before .before .before .before .before .before .before .args .history .now)) (record { 0 = c .before .before .before .before .before .before .before .before .args .d .at })) (c .before .before .before .before .before .before .before .before .args .d) in
-    let low : e .sp < c .before .before .before .before .before .before .before .before .args .r .n = omega (arith, s, c .before .before .if1 .left) in
-    let o = c .before .before .before .before .before .before .before .before .pre in
+    let a = c .before .before .before .before .before .before .before .args in
+    let m = memory (a .bits .now) (a .tags .now) (a .history .now) in
+    let e = (rarely (a .d .rare) (a .r) (cellAt m (record { 0 = a .d .at })) (a .d)) in
+    let s : e .sp ≡ a .d .sp = rarely-sp (a .d .rare) (a .r) (cellAt m (record { 0 = a .d .at })) (a .d) in
+    let low : e .sp < a .r .n = let h = (leb-false (a .r .n) (a .d .sp) (sym (c .before .before .before .is-high .ensures) ∙ c .before .before .if1 .left)) in omega (arith, s, h) in
+    let o = c .before .before .before .before .before .before .before .pre in
     let far = o .block low in
-    ((λ (q : c .before .before .before .before .before .before .before .before .args .d .rare ≡ Swap). let k = rw q at far in omega (arith, k, o .cells)), o .tagged ∙ sym (o .cells))
+    ((λ (q : a .d .rare ≡ Swap). let k = rw q at far in omega (arith, k, o .cells)), o .tagged ∙ sym (o .cells))
 
 has-room-requires : tie.Need-has-room-requires
 has-room-requires c κs = search needs
@@ -46,27 +53,31 @@ same-length-2 c = search needs
 
 returns-2 : tie.Need-returns-2
 returns-2 c =
-    let e = (rarely (c .before .before .before .before .before .before .before .before .before .before .before .before .args .d .rare) (c .before .before .before .before .before .before .before .before .before .before .before .before .args .r) (cellAt (memory (c .before .before .before .before .before .before .before .before .before .before .before .before .args .bits .now) (c .before .before .before .before .before .before .before .before .before .before .before .before .args .tags .now) (c .before .before .before .before .before .before .before .before .before .before .before .before .args .history .now)) (record { 0 = c .before .before .before .before .before .before .before .before .before .before .before .before .args .d .at })) (c .before .before .before .before .before .before .before .before .before .before .before .before .args .d)) in
-    let s : e .sp ≡ c .before .before .before .before .before .before .before .before .before .before .before .before .args .d .sp = rarely-sp (c .before .before .before .before .before .before .before .before .before .before .before .before .args .d .rare) (c .before .before .before .before .before .before .before .before .before .before .before .before .args .r) (cellAt (memory (c .before .before .before .before .before .before .before .before .before .before .before .before .args .bits .now) (c .before .before .before .before .before .before .before .before .before .before .before .before .args .tags .now) (c .before .before .before .before .before .before .before .before .before .before .before .before .args .history .now)) (record { 0 = c .before .before .before .before .before .before .before .before .before .before .before .before .args .d .at })) (c .before .before .before .before .before .before .before .before .before .before .before .before .args .d) in
-    let low : e .sp < c .before .before .before .before .before .before .before .before .before .before .before .before .args .r .n = omega (arith, s, c .before .before .before .before .before .before .if1 .left) in
-    carried-full (c .before .before .before .before .before .before .before .before .before .before .before .before .args .r) (memory (c .before .before .before .before .before .before .before .before .before .before .before .before .args .bits .now) (c .before .before .before .before .before .before .before .before .before .before .before .before .args .tags .now) (c .before .before .before .before .before .before .before .before .before .before .before .before .args .history .now)) _ e (c .refused2 .ensures) low (ap (roomFor (c .before .before .before .before .before .before .before .before .before .before .before .before .args .r)) (sym (c .before .before .before .rare-effect .ensures)) ∙ sym (c .before .before .has-room .ensures) ∙ not-true _ (c .before .if2 .taken))
+    let a = c .before .before .before .before .before .before .before .before .before .before .before .args in
+    let m = memory (a .bits .now) (a .tags .now) (a .history .now) in
+    let e = (rarely (a .d .rare) (a .r) (cellAt m (record { 0 = a .d .at })) (a .d)) in
+    let s : e .sp ≡ a .d .sp = rarely-sp (a .d .rare) (a .r) (cellAt m (record { 0 = a .d .at })) (a .d) in
+    let low : e .sp < a .r .n = let h = (leb-false (a .r .n) (a .d .sp) (sym (c .before .before .before .before .before .before .before .is-high .ensures) ∙ c .before .before .before .before .before .before .if1 .left)) in omega (arith, s, h) in
+    carried-full (a .r) m _ e (c .refused2 .ensures) low (ap (roomFor (a .r)) (sym (c .before .before .before .rare-effect .ensures)) ∙ sym (c .before .before .has-room .ensures) ∙ not-true _ (c .before .if2 .taken))
 
 commit-requires : tie.Need-commit-requires
 commit-requires c κs =
-    let e = (rarely (c .before .before .before .before .before .before .before .before .before .before .before .before .before .before .args .d .rare) (c .before .before .before .before .before .before .before .before .before .before .before .before .before .before .args .r) (cellAt (memory (c .before .before .before .before .before .before .before .before .before .before .before .before .before .before .args .bits .now) (c .before .before .before .before .before .before .before .before .before .before .before .before .before .before .args .tags .now) (c .before .before .before .before .before .before .before .before .before .before .before .before .before .before .args .history .now)) (record { 0 = c .before .before .before .before .before .before .before .before .before .before .before .before .before .before .args .d .at })) (c .before .before .before .before .before .before .before .before .before .before .before .before .before .before .args .d)) in
-    let s : e .sp ≡ c .before .before .before .before .before .before .before .before .before .before .before .before .before .before .args .d .sp = rarely-sp (c .before .before .before .before .before .before .before .before .before .before .before .before .before .before .args .d .rare) (c .before .before .before .before .before .before .before .before .before .before .before .before .before .before .args .r) (cellAt (memory (c .before .before .before .before .before .before .before .before .before .before .before .before .before .before .args .bits .now) (c .before .before .before .before .before .before .before .before .before .before .before .before .before .before .args .tags .now) (c .before .before .before .before .before .before .before .before .before .before .before .before .before .before .args .history .now)) (record { 0 = c .before .before .before .before .before .before .before .before .before .before .before .before .before .before .args .d .at })) (c .before .before .before .before .before .before .before .before .before .before .before .before .before .before .args .d) in
-    let low : e .sp < c .before .before .before .before .before .before .before .before .before .before .before .before .before .before .args .r .n = omega (arith, s, c .before .before .before .before .before .before .before .before .if1 .left) in
-    let o = c .before .before .before .before .before .before .before .before .before .before .before .before .before .before .pre in
-    let fits : Fits (c .before .before .before .before .before .before .before .before .before .before .before .before .before .before .args .r) e (memory (c .before .before .before .before .before .before .before .before .before .before .before .before .before .before .args .bits .now) (c .before .before .before .before .before .before .before .before .before .before .before .before .before .before .args .tags .now) (c .before .before .before .before .before .before .before .before .before .before .before .before .before .before .args .history .now)) =
+    let a = c .before .before .before .before .before .before .before .before .before .before .before .before .before .args in
+    let m = memory (a .bits .now) (a .tags .now) (a .history .now) in
+    let e = (rarely (a .d .rare) (a .r) (cellAt m (record { 0 = a .d .at })) (a .d)) in
+    let s : e .sp ≡ a .d .sp = rarely-sp (a .d .rare) (a .r) (cellAt m (record { 0 = a .d .at })) (a .d) in
+    let low : e .sp < a .r .n = let h = (leb-false (a .r .n) (a .d .sp) (sym (c .before .before .before .before .before .before .before .before .before .is-high .ensures) ∙ c .before .before .before .before .before .before .before .before .if1 .left)) in omega (arith, s, h) in
+    let o = c .before .before .before .before .before .before .before .before .before .before .before .before .before .pre in
+    let fits : Fits (a .r) e m =
     record {
       cells = o .cells;
       tagged = o .tagged;
       places = o .places;
       used = o .used;
       block = o .block low;
-      room = (ap (roomFor (c .before .before .before .before .before .before .before .before .before .before .before .before .before .before .args .r)) (sym (c .before .before .before .before .before .rare-effect .ensures)) ∙ sym (c .before .before .before .before .has-room .ensures) ∙ not-false _ (c .before .before .before .if2 .left));
+      room = (ap (roomFor (a .r)) (sym (c .before .before .before .before .before .rare-effect .ensures)) ∙ sym (c .before .before .before .before .has-room .ensures) ∙ not-false _ (c .before .before .before .if2 .left));
     } in
-    subst (λ (z : Effect). Fits (c .before .before .before .before .before .before .before .before .before .before .before .before .before .before .args .r) z (memory (c .before .before .before .before .before .before .before .before .before .before .before .before .before .before .args .bits .now) (c .before .before .before .before .before .before .before .before .before .before .before .before .before .before .args .tags .now) (c .before .before .before .before .before .before .before .before .before .before .before .before .before .before .args .history .now))) (sym (c .before .before .before .before .before .rare-effect .ensures)) fits
+    subst (λ (z : Effect). Fits (a .r) z m) (sym (c .before .before .before .before .before .rare-effect .ensures)) fits
 
 made-requires : tie.Need-made-requires
 made-requires c κs = search needs
@@ -82,16 +93,19 @@ same-length-5 c = search needs
 
 returns-3 : tie.Need-returns-3
 returns-3 c =
-    let e = (rarely (c .before .before .before .before .before .before .before .before .before .before .before .before .before .before .before .before .before .before .before .before .before .before .args .d .rare) (c .before .before .before .before .before .before .before .before .before .before .before .before .before .before .before .before .before .before .before .before .before .before .args .r) (cellAt (memory (c .before .before .before .before .before .before .before .before .before .before .before .before .before .before .before .before .before .before .before .before .before .before .args .bits .now) (c .before .before .before .before .before .before .before .before .before .before .before .before .before .before .before .before .before .before .before .before .before .before .args .tags .now) (c .before .before .before .before .before .before .before .before .before .before .before .before .before .before .before .before .before .before .before .before .before .before .args .history .now)) (record { 0 = c .before .before .before .before .before .before .before .before .before .before .before .before .before .before .before .before .before .before .before .before .before .before .args .d .at })) (c .before .before .before .before .before .before .before .before .before .before .before .before .before .before .before .before .before .before .before .before .before .before .args .d)) in
-    let s : e .sp ≡ c .before .before .before .before .before .before .before .before .before .before .before .before .before .before .before .before .before .before .before .before .before .before .args .d .sp = rarely-sp (c .before .before .before .before .before .before .before .before .before .before .before .before .before .before .before .before .before .before .before .before .before .before .args .d .rare) (c .before .before .before .before .before .before .before .before .before .before .before .before .before .before .before .before .before .before .before .before .before .before .args .r) (cellAt (memory (c .before .before .before .before .before .before .before .before .before .before .before .before .before .before .before .before .before .before .before .before .before .before .args .bits .now) (c .before .before .before .before .before .before .before .before .before .before .before .before .before .before .before .before .before .before .before .before .before .before .args .tags .now) (c .before .before .before .before .before .before .before .before .before .before .before .before .before .before .before .before .before .before .before .before .before .before .args .history .now)) (record { 0 = c .before .before .before .before .before .before .before .before .before .before .before .before .before .before .before .before .before .before .before .before .before .before .args .d .at })) (c .before .before .before .before .before .before .before .before .before .before .before .before .before .before .before .before .before .before .before .before .before .before .args .d) in
-    let low : e .sp < c .before .before .before .before .before .before .before .before .before .before .before .before .before .before .before .before .before .before .before .before .before .before .args .r .n = omega (arith, s, c .before .before .before .before .before .before .before .before .before .before .before .before .before .before .before .before .if1 .left) in
+    let a = c .before .before .before .before .before .before .before .before .before .before .before .before .before .before .before .before .before .before .before .before .before .args in
+    let m = memory (a .bits .now) (a .tags .now) (a .history .now) in
+    let e = (rarely (a .d .rare) (a .r) (cellAt m (record { 0 = a .d .at })) (a .d)) in
+    let s : e .sp ≡ a .d .sp = rarely-sp (a .d .rare) (a .r) (cellAt m (record { 0 = a .d .at })) (a .d) in
+    let low : e .sp < a .r .n = let h = (leb-false (a .r .n) (a .d .sp) (sym (c .before .before .before .before .before .before .before .before .before .before .before .before .before .before .before .before .before .is-high .ensures) ∙ c .before .before .before .before .before .before .before .before .before .before .before .before .before .before .before .before .if1 .left)) in omega (arith, s, h) in
     let done = rw (c .before .before .before .before .before .before .before .before .before .before .before .before .before .rare-effect .ensures) at (c .before .before .before .before .before .before .before .commit .ensures) in
-    carried-does (c .before .before .before .before .before .before .before .before .before .before .before .before .before .before .before .before .before .before .before .before .before .before .args .r) (memory (c .before .before .before .before .before .before .before .before .before .before .before .before .before .before .before .before .before .before .before .before .before .before .args .bits .now) (c .before .before .before .before .before .before .before .before .before .before .before .before .before .before .before .before .before .before .before .before .before .before .args .tags .now) (c .before .before .before .before .before .before .before .before .before .before .before .before .before .before .before .before .before .before .before .before .before .before .args .history .now)) _ e _ _ (c .made .ensures) low (ap (roomFor (c .before .before .before .before .before .before .before .before .before .before .before .before .before .before .before .before .before .before .before .before .before .before .args .r)) (sym (c .before .before .before .before .before .before .before .before .before .before .before .before .before .rare-effect .ensures)) ∙ sym (c .before .before .before .before .before .before .before .before .before .before .before .before .has-room .ensures) ∙ not-false _ (c .before .before .before .before .before .before .before .before .before .before .before .if2 .left)) (done .0) (done .1)
+    carried-does (a .r) m _ e _ _ (c .made .ensures) low (ap (roomFor (a .r)) (sym (c .before .before .before .before .before .before .before .before .before .before .before .before .before .rare-effect .ensures)) ∙ sym (c .before .before .before .before .before .before .before .before .before .before .before .before .has-room .ensures) ∙ not-false _ (c .before .before .before .before .before .before .before .before .before .before .before .if2 .left)) (done .0) (done .1)
 
 pub carry-rare-spec : {M : Type 1} → statement M
 carry-rare-spec =
     tie.close
     (tie.spec
+    is-high-requires
     refused-requires
     returns
     rare-effect-requires

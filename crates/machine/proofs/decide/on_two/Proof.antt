@@ -16,10 +16,11 @@ refuse-requires c κs = search needs
 returns : tie.Need-returns
 unfolding decide planned
 returns c n =
-    let r = c .before .before .before .before .before .args .r in
-    let m = memory (c .before .before .before .before .before .args .bits .now) (c .before .before .before .before .before .args .tags .now) [] in
+    let a = c .before .before .before .before .before .args in
+    let r = a .r in
+    let m = memory (a .bits .now) (a .tags .now) [] in
     ap (planned r m) (c .refuse .ensures)
-    ∙ sym (pair-few r m n (cellAt m (record { 0 = r .sp - 2 })) (cellAt m (record { 0 = r .sp - 1 })) (c .before .if1 .taken) (c .before .before .before .before .before .args .code) (c .before .before .before .before .before .pre .2))
+    ∙ sym (pair-few r m n (cellAt m (record { 0 = r .sp - 2 })) (cellAt m (record { 0 = r .sp - 1 })) (c .before .if1 .taken) (a .code) (c .before .before .before .before .before .pre .2))
 
 second-requires : tie.Need-second-requires
 second-requires c κs = search needs

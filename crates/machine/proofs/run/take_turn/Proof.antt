@@ -19,29 +19,46 @@ refused-requires : tie.Need-refused-requires
 refused-requires c κs = search needs
 
 returns : tie.Need-returns
-returns c = step-refuses (program (c .before .before .before .before .before .before .before .args .table .now) (c .before .before .before .before .before .before .before .args .count)) (c .before .before .before .before .before .before .before .args .r) (memory (c .before .before .before .before .before .before .before .args .bits .now) (c .before .before .before .before .before .before .before .args .tags .now) (c .before .before .before .before .before .before .before .args .history .now)) (c .before .before .before .before .before .before .before .pre) _ AlreadyHalted (c .refused .ensures) (judged-halted (program (c .before .before .before .before .before .before .before .args .table .now) (c .before .before .before .before .before .before .before .args .count)) (c .before .before .before .before .before .before .before .args .r) (memory (c .before .before .before .before .before .before .before .args .bits .now) (c .before .before .before .before .before .before .before .args .tags .now) (c .before .before .before .before .before .before .before .args .history .now)) (c .before .if1 .taken))
+returns c =
+    let a = c .before .before .before .before .before .before .before .args in
+    let m = memory (a .bits .now) (a .tags .now) (a .history .now) in
+    let p = program (a .table .now) (a .count) in
+    step-refuses p (a .r) m (c .before .before .before .before .before .before .before .pre) _ AlreadyHalted (c .refused .ensures) (judged-halted p (a .r) m (c .before .if1 .taken))
 
 refused-requires-2 : tie.Need-refused-requires-2
 refused-requires-2 c κs = search needs
 
 returns-2 : tie.Need-returns-2
-returns-2 c = step-refuses (program (c .before .before .before .before .before .before .before .before .args .table .now) (c .before .before .before .before .before .before .before .before .args .count)) (c .before .before .before .before .before .before .before .before .args .r) (memory (c .before .before .before .before .before .before .before .before .args .bits .now) (c .before .before .before .before .before .before .before .before .args .tags .now) (c .before .before .before .before .before .before .before .before .args .history .now)) (c .before .before .before .before .before .before .before .before .pre) _ AtEnd (c .refused2 .ensures) (judged-end (program (c .before .before .before .before .before .before .before .before .args .table .now) (c .before .before .before .before .before .before .before .before .args .count)) (c .before .before .before .before .before .before .before .before .args .r) (memory (c .before .before .before .before .before .before .before .before .args .bits .now) (c .before .before .before .before .before .before .before .before .args .tags .now) (c .before .before .before .before .before .before .before .before .args .history .now)) (c .before .before .if1 .left) (c .before .if2 .taken))
+returns-2 c =
+    let a = c .before .before .before .before .before .before .before .before .args in
+    let m = memory (a .bits .now) (a .tags .now) (a .history .now) in
+    let p = program (a .table .now) (a .count) in
+    step-refuses p (a .r) m (c .before .before .before .before .before .before .before .before .pre) _ AtEnd (c .refused2 .ensures) (judged-end p (a .r) m (c .before .before .if1 .left) (c .before .if2 .taken))
 
 mul-decide-at : tie.Need-mul-decide-at
-mul-decide-at c = let s = small (program (c .before .before .before .before .before .before .before .args .table .now) (c .before .before .before .before .before .before .before .args .count)) (c .before .before .before .before .before .before .before .args .r) (memory (c .before .before .before .before .before .before .before .args .bits .now) (c .before .before .before .before .before .before .before .args .tags .now) (c .before .before .before .before .before .before .before .args .history .now)) (c .before .before .before .before .before .before .before .pre) in omega (arith, s .0)
+mul-decide-at c =
+    let a = c .before .before .before .before .before .before .before .args in
+    let s = small (program (a .table .now) (a .count)) (a .r) (memory (a .bits .now) (a .tags .now) (a .history .now)) (c .before .before .before .before .before .before .before .pre) in omega (arith, s .0)
 
 shared-slice-read-decide-at : tie.Need-shared-slice-read-decide-at
-shared-slice-read-decide-at c = placed (program (c .before .before .before .before .before .before .before .before .args .table .now) (c .before .before .before .before .before .before .before .before .args .count)) (c .before .before .before .before .before .before .before .before .args .r) (memory (c .before .before .before .before .before .before .before .before .args .bits .now) (c .before .before .before .before .before .before .before .before .args .tags .now) (c .before .before .before .before .before .before .before .before .args .history .now)) (c .before .before .before .before .before .before .before .before .pre) (c .before .before .if1 .left) (c .before .if2 .left)
+shared-slice-read-decide-at c =
+    let a = c .before .before .before .before .before .before .before .before .args in
+    placed (program (a .table .now) (a .count)) (a .r) (memory (a .bits .now) (a .tags .now) (a .history .now)) (c .before .before .before .before .before .before .before .before .pre) (c .before .before .if1 .left) (c .before .if2 .left)
 
 decide-at-requires : tie.Need-decide-at-requires
-decide-at-requires c κs = (small (program (c .before .before .before .before .before .before .before .before .before .before .args .table .now) (c .before .before .before .before .before .before .before .before .before .before .args .count)) (c .before .before .before .before .before .before .before .before .before .before .args .r) (memory (c .before .before .before .before .before .before .before .before .before .before .args .bits .now) (c .before .before .before .before .before .before .before .before .before .before .args .tags .now) (c .before .before .before .before .before .before .before .before .before .before .args .history .now)) (c .before .before .before .before .before .before .before .before .before .before .pre), live (program (c .before .before .before .before .before .before .before .before .before .before .args .table .now) (c .before .before .before .before .before .before .before .before .before .before .args .count)) (c .before .before .before .before .before .before .before .before .before .before .args .r) (memory (c .before .before .before .before .before .before .before .before .before .before .args .bits .now) (c .before .before .before .before .before .before .before .before .before .before .args .tags .now) (c .before .before .before .before .before .before .before .before .before .before .args .history .now)) (c .before .before .before .before .before .before .before .before .before .before .pre), coded (program (c .before .before .before .before .before .before .before .before .before .before .args .table .now) (c .before .before .before .before .before .before .before .before .before .before .args .count)) (c .before .before .before .before .before .before .before .before .before .before .args .r) (memory (c .before .before .before .before .before .before .before .before .before .before .args .bits .now) (c .before .before .before .before .before .before .before .before .before .before .args .tags .now) (c .before .before .before .before .before .before .before .before .before .before .args .history .now)) (c .before .before .before .before .before .before .before .before .before .before .pre) (c .before .before .before .before .if1 .left) (c .before .before .before .if2 .left))
+decide-at-requires c κs =
+    let a = c .before .before .before .before .before .before .before .before .before .before .args in
+    let m = memory (a .bits .now) (a .tags .now) (a .history .now) in
+    let p = program (a .table .now) (a .count) in
+    (small p (a .r) m (c .before .before .before .before .before .before .before .before .before .before .pre), live p (a .r) m (c .before .before .before .before .before .before .before .before .before .before .pre), coded p (a .r) m (c .before .before .before .before .before .before .before .before .before .before .pre) (c .before .before .before .before .if1 .left) (c .before .before .before .if2 .left))
 
 carry-requires : tie.Need-carry-requires
 carry-requires c κs e q =
-    opens (program (c .before .before .before .before .before .before .before .before .before .before .before .before .before .before .args .table .now) (c .before .before .before .before .before .before .before .before .before .before .before .before .before .before .args .count)) (c .before .before .before .before .before .before .before .before .before .before .before .before .before .before .args .r) (memory (c .before .before .before .before .before .before .before .before .before .before .before .before .before .before .args .bits .now) (c .before .before .before .before .before .before .before .before .before .before .before .before .before .before .args .tags .now) (c .before .before .before .before .before .before .before .before .before .before .before .before .before .before .args .history .now)) (c .before .before .before .before .before .before .before .before .before .before .before .before .before .before .pre) (c .before .before .before .before .before .before .before .before .if1 .left) (c .before .before .before .before .before .before .before .if2 .left) e
+    let a = c .before .before .before .before .before .before .before .before .before .before .before .before .before .before .args in
+    opens (program (a .table .now) (a .count)) (a .r) (memory (a .bits .now) (a .tags .now) (a .history .now)) (c .before .before .before .before .before .before .before .before .before .before .before .before .before .before .pre) (c .before .before .before .before .before .before .before .before .if1 .left) (c .before .before .before .before .before .before .before .if2 .left) e
     (sym
-    (planned-history (c .before .before .before .before .before .before .before .before .before .before .before .before .before .before .args .r) (c .before .before .before .before .before .before .before .before .before .before .before .before .before .before .args .bits .now) (c .before .before .before .before .before .before .before .before .before .before .before .before .before .before .args .tags .now) (c .before .before .before .before .before .before .before .before .before .before .before .before .before .before .args .history .now) [] (c .before .before .before .decide-at .result) ∙ c .before .before .before .decide-at .ensures
-    ∙ decide-history (c .before .before .before .before .before .before .before .before .before .before .before .before .before .before .args .r) (c .before .before .before .before .before .before .before .before .before .before .before .before .before .before .args .bits .now) (c .before .before .before .before .before .before .before .before .before .before .before .before .before .before .args .tags .now) [] (c .before .before .before .before .before .before .before .before .before .before .before .before .before .before .args .history .now) (getD (c .before .before .before .before .before .before .before .before .before .before .before .before .before .before .args .table .now) (c .before .before .before .before .before .before .before .before .before .before .before .before .before .before .args .r .pc) 0)) ∙ q)
+    (planned-history (a .r) (a .bits .now) (a .tags .now) (a .history .now) [] (c .before .before .before .decide-at .result) ∙ c .before .before .before .decide-at .ensures
+    ∙ decide-history (a .r) (a .bits .now) (a .tags .now) [] (a .history .now) (getD (a .table .now) (a .r .pc) 0)) ∙ q)
 
 same-length : tie.Need-same-length
 same-length c = search needs
@@ -54,11 +71,13 @@ same-length-3 c = search needs
 
 returns-3 : tie.Need-returns-3
 returns-3 c =
+    let a = c .before .before .before .before .before .before .before .before .before .before .before .before .before .before .before .before .before .before .before .before .before .args in
+    let m = memory (a .bits .now) (a .tags .now) (a .history .now) in
     c .before .before .before .before .before .before .carry .ensures
-    ∙ ap (λ (z : Decision). carried (c .before .before .before .before .before .before .before .before .before .before .before .before .before .before .before .before .before .before .before .before .before .args .r) (memory (c .before .before .before .before .before .before .before .before .before .before .before .before .before .before .before .before .before .before .before .before .before .args .bits .now) (c .before .before .before .before .before .before .before .before .before .before .before .before .before .before .before .before .before .before .before .before .before .args .tags .now) (c .before .before .before .before .before .before .before .before .before .before .before .before .before .before .before .before .before .before .before .before .before .args .history .now)) (fitted (c .before .before .before .before .before .before .before .before .before .before .before .before .before .before .before .before .before .before .before .before .before .args .r) z))
-    (planned-history (c .before .before .before .before .before .before .before .before .before .before .before .before .before .before .before .before .before .before .before .before .before .args .r) (c .before .before .before .before .before .before .before .before .before .before .before .before .before .before .before .before .before .before .before .before .before .args .bits .now) (c .before .before .before .before .before .before .before .before .before .before .before .before .before .before .before .before .before .before .before .before .before .args .tags .now) (c .before .before .before .before .before .before .before .before .before .before .before .before .before .before .before .before .before .before .before .before .before .args .history .now) [] (c .before .before .before .before .before .before .before .before .before .before .decide-at .result) ∙ c .before .before .before .before .before .before .before .before .before .before .decide-at .ensures
-    ∙ decide-history (c .before .before .before .before .before .before .before .before .before .before .before .before .before .before .before .before .before .before .before .before .before .args .r) (c .before .before .before .before .before .before .before .before .before .before .before .before .before .before .before .before .before .before .before .before .before .args .bits .now) (c .before .before .before .before .before .before .before .before .before .before .before .before .before .before .before .before .before .before .before .before .before .args .tags .now) [] (c .before .before .before .before .before .before .before .before .before .before .before .before .before .before .before .before .before .before .before .before .before .args .history .now) (getD (c .before .before .before .before .before .before .before .before .before .before .before .before .before .before .before .before .before .before .before .before .before .args .table .now) (c .before .before .before .before .before .before .before .before .before .before .before .before .before .before .before .before .before .before .before .before .before .args .r .pc) 0))
-    ∙ sym (step-carries (program (c .before .before .before .before .before .before .before .before .before .before .before .before .before .before .before .before .before .before .before .before .before .args .table .now) (c .before .before .before .before .before .before .before .before .before .before .before .before .before .before .before .before .before .before .before .before .before .args .count)) (c .before .before .before .before .before .before .before .before .before .before .before .before .before .before .before .before .before .before .before .before .before .args .r) (memory (c .before .before .before .before .before .before .before .before .before .before .before .before .before .before .before .before .before .before .before .before .before .args .bits .now) (c .before .before .before .before .before .before .before .before .before .before .before .before .before .before .before .before .before .before .before .before .before .args .tags .now) (c .before .before .before .before .before .before .before .before .before .before .before .before .before .before .before .before .before .before .before .before .before .args .history .now)) (c .before .before .before .before .before .before .before .before .before .before .before .before .before .before .before .before .before .before .before .before .before .pre) (c .before .before .before .before .before .before .before .before .before .before .before .before .before .before .before .if1 .left) (c .before .before .before .before .before .before .before .before .before .before .before .before .before .before .if2 .left))
+    ∙ ap (λ (z : Decision). carried (a .r) m (fitted (a .r) z))
+    (planned-history (a .r) (a .bits .now) (a .tags .now) (a .history .now) [] (c .before .before .before .before .before .before .before .before .before .before .decide-at .result) ∙ c .before .before .before .before .before .before .before .before .before .before .decide-at .ensures
+    ∙ decide-history (a .r) (a .bits .now) (a .tags .now) [] (a .history .now) (getD (a .table .now) (a .r .pc) 0))
+    ∙ sym (step-carries (program (a .table .now) (a .count)) (a .r) m (c .before .before .before .before .before .before .before .before .before .before .before .before .before .before .before .before .before .before .before .before .before .pre) (c .before .before .before .before .before .before .before .before .before .before .before .before .before .before .before .if1 .left) (c .before .before .before .before .before .before .before .before .before .before .before .before .before .before .if2 .left))
 
 pub take-turn-spec : {M : Type 1} → statement M
 take-turn-spec =
