@@ -17,9 +17,11 @@ python3 bench/test_sam.py
 
 echo "bench: the published programs"
 python3 bench/teaching.py >"$out/teaching.stdout"
+python3 bench/teaching.py --sources >"$out/teaching.stdin"
 if [ -f crates/teaching/stdout ]; then
+    cmp "$out/teaching.stdin" crates/teaching/stdin
     cmp "$out/teaching.stdout" crates/teaching/stdout
-    echo "bench: crates/teaching/stdout is what bench/teaching.py prints"
+    echo "bench: crates/teaching runs the programs of bench/teaching, and its stdout is what bench/teaching.py prints"
 fi
 
 if [ -z "$CC" ]; then

@@ -1,5 +1,6 @@
 #!/usr/bin/env python3
-"""Prints what the published programs of document 004 do, and the complaint: the format is in README.md."""
+"""Prints what the published programs of document 004 do, and the complaint: the format is in README.md. With --sources it
+prints the programs instead, as crates/teaching reads them."""
 
 import sys
 from pathlib import Path
@@ -49,7 +50,15 @@ def complaint():
     return "".join(lines)
 
 
+def sources():
+    """Each program but the complaint, with a line of `~` and its name behind it."""
+    return b"".join(source_of(name) + f"~{name}\n".encode() for name in PROGRAMS if name != "complaint")
+
+
 def main():
+    if "--sources" in sys.argv[1:]:
+        sys.stdout.buffer.write(sources())
+        return
     for name in PROGRAMS:
         sys.stdout.write(f"program {name}\n{sam.console(source_of(name))}")
     sys.stdout.write(complaint())

@@ -1,22 +1,9 @@
 // What the program writes: answers, and what a lent output holds.
 use libc::STDOUT_FILENO;
-use rules::ImageRefusal;
 use rules::Packed;
 
 pub(crate) fn text(t: &[u8]) {
     io::write_all(STDOUT_FILENO, t);
-}
-
-fn number_of(refusal: ImageRefusal) -> u64 {
-    match refusal {
-        ImageRefusal::TableBroken => 10,
-        ImageRefusal::OutputLength => 31,
-        ImageRefusal::EndsEarly => 41,
-        ImageRefusal::CountTooHigh => 42,
-        ImageRefusal::CodeTooHigh => 43,
-        ImageRefusal::OperandOutside => 44,
-        ImageRefusal::BadPadding => 45,
-    }
 }
 
 fn wide(b: u8) -> u64 {
@@ -30,18 +17,10 @@ fn number(n: u64) {
 
 // The number and the length told, which it gives back.
 pub(crate) fn answer(answer: Packed) -> usize {
-    match answer {
-        Packed::Length(told) => {
-            number(0);
-            number(told as u64);
-            told
-        }
-        Packed::Denied(refusal) => {
-            number(number_of(refusal));
-            number(0);
-            0
-        }
-    }
+    let told = numbers::packed_length(answer);
+    number(numbers::packed_number(answer) as u64);
+    number(told as u64);
+    told
 }
 
 // What stands behind what was told: zeros, or the sevens that were lent.

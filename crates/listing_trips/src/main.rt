@@ -4,61 +4,36 @@
 // 1,024 and 1,025 instructions, and the program of the longest listing. After them the number alone of listings that are refused, or not.
 use libc::STDIN_FILENO;
 use libc::STDOUT_FILENO;
-use rules::Assembled;
-use rules::Listed;
-use rules::TextRefusal;
 use rules::sizes::LISTING_SIZE;
 use rules::sizes::MAX_PROGRAM;
 use rules::sizes::MAX_SOURCE;
 
-fn number_of(e: TextRefusal) -> u64 {
-    match e {
-        TextRefusal::BrokenTable => 10,
-        TextRefusal::SourceTooLong => 21,
-        TextRefusal::ForbiddenByte => 22,
-        TextRefusal::NoInstruction => 23,
-        TextRefusal::BadOperand => 24,
-        TextRefusal::OperandRange => 25,
-        TextRefusal::LabelTwice => 26,
-        TextRefusal::LabelUnknown => 27,
-        TextRefusal::TooManyInstructions => 28,
-        TextRefusal::TooManyLabels => 29,
-        TextRefusal::LabelTooLong => 30,
-        TextRefusal::WrongLength => 31,
-    }
-}
-
 // What a call tells: its number; and the number of instructions or the length of the listing, or a refused source's place.
 struct Told {
-    number: u64,
+    number: u32,
     value: usize,
 }
 
 fn assemble(source: &[u8], table: &mut [u64]) -> Told {
     let answer = assembler::assemble(source, table);
-    match answer {
-        Assembled::Made(n) => Told {
-            number: 0,
-            value: n,
-        },
-        Assembled::Fault(e, at) => Told {
-            number: number_of(e),
-            value: at,
-        },
+    let number = numbers::assembled_number(answer);
+    if number != 0 {
+        return Told {
+            number,
+            value: numbers::assembled_place(answer),
+        };
+    }
+    Told {
+        number,
+        value: numbers::assembled_length(answer),
     }
 }
 
 fn list(table: &[u64], n: usize, text: &mut [u8]) -> Told {
     let answer = lister::list(table, n, text);
-    match answer {
-        Listed::Told(length) => Told {
-            number: 0,
-            value: length,
-        },
-        Listed::Failed(e) => Told {
-            number: number_of(e),
-            value: 0,
-        },
+    Told {
+        number: numbers::listed_number(answer),
+        value: numbers::listed_length(answer),
     }
 }
 
@@ -114,7 +89,7 @@ fn trip(source: &[u8]) {
     let mut table = [9u64; MAX_PROGRAM];
     let told = assemble(source, &mut table);
     if told.number != 0 {
-        say_both(told.number, told.value, b'\n');
+        say_both(told.number as u64, told.value, b'\n');
         return;
     }
     say_both(0, told.value, b' ');
@@ -149,7 +124,7 @@ fn list_place(place: u64, n: usize, text: &mut [u8]) {
     let mut table = [0u64; MAX_PROGRAM];
     table[0] = place;
     let told = list(&table, n, text);
-    say(told.number, b'\n');
+    say(told.number as u64, b'\n');
 }
 
 fn list_one(place: u64, n: usize) {

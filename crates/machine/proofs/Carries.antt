@@ -1,17 +1,17 @@
 -- What carrying out comes to: a decision in each of its cases, a plan by its shape, and the memory after a jump and after one written cell.
 -- Assumes nothing.
-use Prim.Native.Nat.{ℕ, suc, _+_, _-_, _≤_, _<_, zero-le}
-use mathlib.Core.Path.{_≡_, refl, sym, ap, ap₂, _∙_}
+use Prim.Native.Nat.{ℕ, _+_, _-_, _≤_, _<_, zero-le}
+use mathlib.Core.Path.{_≡_, refl, sym, ap, _∙_}
 use mathlib.Core.Bool.{Bool, true, false}
 use mathlib.Core.List.{List, [], _∷_, _++_}
 use native.Mathlib.Omega.{arith}
-use lib.ListN.{length, getD, take, drop, set}
+use lib.ListN.{length, getD, take, set}
 use lib.Seq.{drop-cons}
 use borrow.Author.Tests.{lt-ltb, le-leb, lt-leb}
 use Rattle.rules.specs.Lists.{part, splice}
 use Rattle.rules.specs.Places.{cellPlace, stepPlace}
 use Rattle.rules.specs.State.{Memory, memory, cellAt}
-use Rattle.rules.specs.Commit.{block, cellPlaces, recordOf, keeps, historyAfter, roomIn, roomFor, registersOf, memoryOf}
+use Rattle.rules.specs.Commit.{cellPlaces, recordOf, keeps, historyAfter, roomIn, roomFor, registersOf, memoryOf}
 use Rattle.rules.specs.Step.{fitted, carried}
 use Rattle.rules.specs.declared.Cell.{Cell}
 use Rattle.rules.specs.declared.Registers.{Registers}
@@ -22,8 +22,7 @@ use Rattle.rules.specs.declared.MachineRefusal.{MachineRefusal}
 use Rattle.rules.specs.declared.MachineRefusal.the-variants.{StackFull, HistoryFull}
 use Rattle.rules.specs.declared.Step.{Step}
 use Rattle.rules.specs.declared.Step.the-variants.{Next, Refused}
-use Rattle.rules.proofs.Splice.{sets-splice, splice-none}
-use Rattle.state.specs.Outcomes.{stepped}
+use Rattle.rules.proofs.Splice.{sets-splice}
 use Rattle.machine.specs.Plan.{jumps, writes, rarely, shaped, planned}
 use Rattle.machine.specs.declared.plans.Plan.{Plan}
 use Rattle.machine.specs.declared.plans.Rare.{Rare}

@@ -1,7 +1,7 @@
 -- The codes of the instructions that compute on the two top values: which are left when the others have their arms, and that with fewer than two
 -- values each is refused with 3. Assumes nothing.
 use Prim.Native.Nat.{ℕ, zero, suc, _+_, _≤_, _<_, zero-le}
-use mathlib.Core.Path.{_≡_, refl, sym, _∙_}
+use mathlib.Core.Path.{_≡_, refl, sym}
 use mathlib.Core.Bool.{Bool, true, false, _||_, false≢true}
 use native.Mathlib.Omega.{arith}
 use lib.Arith.{lt-of-le-ne}

@@ -1,9 +1,8 @@
 -- Where an offset leads, and what the instructions with offsets decide there. Assumes nothing.
 use Prim.Native.Nat.{ℕ, suc, _+_, _-_, _^_, _≤_, _<_}
-use mathlib.Core.Path.{_≡_, refl, sym, ap, _∙_}
-use mathlib.Core.Bool.{Bool, true, false}
+use mathlib.Core.Path.{_≡_, refl, sym, ap}
+use mathlib.Core.Bool.{true, false}
 use native.Mathlib.Omega.{arith}
-use lib.Dec.{ltb}
 use lib.IntN.{ℤ, pos, negsuc, natAbs, _+ℤ_}
 use borrow.Author.Tests.{lt-ltb, le-ltb}
 use Rattle.rules.specs.Words.{signed}
@@ -11,9 +10,8 @@ use Rattle.rules.specs.Decide.{moved, frame, inside, memoryAddress, addSpTo, on
 use Rattle.rules.specs.declared.MemoryAddress.{MemoryAddress}
 use Rattle.rules.specs.declared.Registers.{Registers}
 use Rattle.rules.specs.declared.Decision.the-variants.{Does, Refuses}
-use Rattle.rules.specs.declared.MachineRefusal.the-variants.{TooFewValues, BadAddress}
+use Rattle.rules.specs.declared.MachineRefusal.the-variants.{TooFewValues}
 use Rattle.machine.specs.Reach.{reachOf}
-use Rattle.machine.specs.declared.addresses.Reach.{Reach}
 use Rattle.machine.specs.declared.addresses.Reach.the-variants.{To, Below}
 use Rattle.machine.proofs.Signed.{signed-low, signed-high}
 

@@ -15,7 +15,6 @@ use Rattle.rules.specs.declared.MachineRefusal.{MachineRefusal}
 use Rattle.rules.specs.declared.Step.{Step}
 use Rattle.rules.specs.declared.Step.the-variants.{Next, Refused}
 use Rattle.rules.specs.declared.Run.{Run}
-use Rattle.rules.specs.declared.Ending.{Ending}
 use Rattle.rules.specs.declared.Ending.the-variants.{Halted, LimitReached, Stopped}
 use Rattle.rules.proofs.Tests.{by-test}
 use Rattle.rules.proofs.Runs.{run-halted, run-limit, run-next, run-refused}

@@ -7,7 +7,6 @@ ghost use Rattle.rules.specs.State.{memory, cellAt};
 ghost use Rattle.machine.specs.declared.plans.Rare.the-variants.{Swap};
 ghost use Rattle.machine.specs.Plan.{swaps, fills, frames, links, halts, rarely};
 use crate::cells::cell_at;
-use crate::cells::int_cell;
 use crate::plans::Plan;
 use crate::plans::Rare;
 use rules::Cell;

@@ -1,6 +1,4 @@
 -- `machine::carry::has_room` meets its contract. Assumes nothing.
-use mathlib.Core.Path.{_∙_}
-use native.Mathlib.Omega.{arith}
 use Rattle.machine.proofs.Steps.{room-none, room-some}
 use borrow.Author.Needs.{needs}
 use Rattle.machine.proofs.carry.has_room.Statement.{statement}

@@ -1,6 +1,6 @@
 -- `machine::carry::keep_cell` meets its contract. Assumes nothing.
 use Rattle.rules.specs.Lists.{splice}
-use Prim.Native.Nat.{ℕ, _+_}
+use Prim.Native.Nat.{ℕ}
 use mathlib.Core.Path.{ap, ap₂, _∙_}
 use mathlib.Core.List.{[], _∷_}
 use native.Mathlib.Omega.{arith}

@@ -1,6 +1,6 @@
 -- `machine::carry::write` meets its contract. Assumes nothing.
 use borrow.Author.Tests.{leb-true, leb-false}
-use Prim.Native.Nat.{_+_, _<_, _≤_}
+use Prim.Native.Nat.{_<_}
 use mathlib.Core.Path.{refl, sym, _∙_}
 use native.Mathlib.Omega.{arith}
 use lib.ListN.{length}

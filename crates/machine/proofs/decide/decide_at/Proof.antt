@@ -1,5 +1,4 @@
 -- `machine::decide::decide_at` meets its contract. Assumes nothing.
-use Rattle.rules.specs.Decide.{decide}
 use Rattle.rules.specs.Step.{decideAt}
 use borrow.Author.Needs.{needs}
 use Rattle.machine.proofs.decide.decide_at.Statement.{statement}

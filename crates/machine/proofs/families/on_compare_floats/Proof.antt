@@ -1,6 +1,6 @@
 -- `machine::families::on_compare_floats` meets its contract. Assumes nothing.
 use mathlib.Core.Path.{sym, _∙_}
-use borrow.Author.Tests.{lt-leb, le-leb, ne-eqb, not-true, not-false}
+use borrow.Author.Tests.{le-leb, ne-eqb}
 use Rattle.machine.specs.Plan.{planned}
 use borrow.Author.Needs.{needs}
 use Rattle.machine.proofs.families.on_compare_floats.Statement.{statement}

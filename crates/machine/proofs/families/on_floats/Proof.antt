@@ -1,5 +1,5 @@
 -- `machine::families::on_floats` meets its contract. Assumes nothing.
-use borrow.Author.Tests.{lt-leb, le-leb, ne-eqb, not-true, not-false}
+use borrow.Author.Tests.{le-leb, ne-eqb}
 use Rattle.machine.specs.Plan.{planned}
 use borrow.Author.Needs.{needs}
 use Rattle.machine.proofs.families.on_floats.Statement.{statement}
