@@ -73,7 +73,3 @@ planned r m d = shaped (d .shape) r (cellAt m (record { 0 = d .at })) d
 -- a plan that means the decision whatever stands in the cells
 abbrev pub Means : Registers → Plan → Decision → Type 0
 Means r d x = (m : Memory) → planned r m d ≡ x
-
--- a refusal plans nothing more
-abbrev pub refusing : Shape → Plan
-refusing s = record { shape = s; rare = Halt; pc = 0; sp = 0; at = 0; bits = 0; tag = INT }

@@ -12,9 +12,10 @@ ghost use Rattle.machine.specs.Plan.{Means};
 ghost use Rattle.machine.specs.Reach.{reachOf};
 use crate::cells;
 use crate::plans;
+use crate::plans::BAD_ADDRESS;
 use crate::plans::Plan;
-use crate::plans::Shape;
-use crate::plans::refuse;
+use crate::plans::TOO_FEW_VALUES;
+use crate::plans::WRONG_TAG;
 use rules::Cell;
 use rules::MemoryAddress;
 use rules::Registers;
@@ -70,7 +71,7 @@ pub(crate) fn on_add_sp(r: Registers, offset: u32) -> Plan
     let to = moved_by(r.sp, offset);
     match to {
         Reach::To(a) => plans::moved(r, r.sp, a),
-        Reach::Below => refuse(Shape::TooFewValues),
+        Reach::Below => TOO_FEW_VALUES,
     }
 }
 
@@ -80,13 +81,13 @@ pub(crate) fn on_push_ind(r: Registers, bits: &[u32], tags: &[u8], top: Cell) ->
     ensures { λ d. ⌜ Means r d (onPushInd r (memory (now (bits .entry)) (now (tags .entry)) []) top) ⌝ }
 {
     if r.sp < 1 {
-        return refuse(Shape::TooFewValues);
+        return TOO_FEW_VALUES;
     }
     if top.tag != tags::MA {
-        return refuse(Shape::WrongTag);
+        return WRONG_TAG;
     }
     if !inside(top.bits, r.sp - 1) {
-        return refuse(Shape::BadAddress);
+        return BAD_ADDRESS;
     }
     let c = cells::cell_at(bits, tags, memory_address(top.bits));
     plans::result(r, 1, c)
@@ -98,13 +99,13 @@ pub(crate) fn on_store_ind(r: Registers, below: Cell, top: Cell) -> Plan
     ensures { λ d. ⌜ Means r d (onStoreInd r below top) ⌝ }
 {
     if r.sp < 2 {
-        return refuse(Shape::TooFewValues);
+        return TOO_FEW_VALUES;
     }
     if below.tag != tags::MA {
-        return refuse(Shape::WrongTag);
+        return WRONG_TAG;
     }
     if !inside(below.bits, r.sp - 2) {
-        return refuse(Shape::BadAddress);
+        return BAD_ADDRESS;
     }
     plans::stored(r, 2, memory_address(below.bits), top)
 }
@@ -120,9 +121,9 @@ pub(crate) fn on_push_off(r: Registers, bits: &[u32], tags: &[u8], offset: u32) 
             if a.0 < r.sp {
                 return plans::result(r, 0, cells::cell_at(bits, tags, a));
             }
-            refuse(Shape::BadAddress)
+            BAD_ADDRESS
         }
-        Reach::Below => refuse(Shape::BadAddress),
+        Reach::Below => BAD_ADDRESS,
     }
 }
 
@@ -132,7 +133,7 @@ pub(crate) fn on_store_off(r: Registers, offset: u32, top: Cell) -> Plan
     ensures { λ d. ⌜ Means r d (onStoreOff r offset top) ⌝ }
 {
     if r.sp < 1 {
-        return refuse(Shape::TooFewValues);
+        return TOO_FEW_VALUES;
     }
     let to = moved_by(r.fbr, offset);
     match to {
@@ -140,8 +141,8 @@ pub(crate) fn on_store_off(r: Registers, offset: u32, top: Cell) -> Plan
             if a.0 < r.sp - 1 {
                 return plans::stored(r, 1, a, top);
             }
-            refuse(Shape::BadAddress)
+            BAD_ADDRESS
         }
-        Reach::Below => refuse(Shape::BadAddress),
+        Reach::Below => BAD_ADDRESS,
     }
 }

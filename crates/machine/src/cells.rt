@@ -11,6 +11,12 @@ use rules::MemoryAddress;
 use rules::Registers;
 use rules::tags;
 
+// INT 0.
+pub(crate) const INT_ZERO: Cell = Cell {
+    bits: 0,
+    tag: tags::INT,
+};
+
 pub(crate) fn int_cell(bits: u32) -> Cell
     ensures { λ c. ⌜ c ≡ int bits ⌝ }
 {

@@ -16,7 +16,7 @@ use crate::cells;
 use crate::families;
 use crate::plans;
 use crate::plans::Plan;
-use crate::plans::Shape;
+use crate::plans::TOO_FEW_VALUES;
 use rules::Cell;
 use rules::Registers;
 use rules::codes;
@@ -63,7 +63,7 @@ fn on_two(code: usize, r: Registers, bits: &[u32], tags: &[u8]) -> Plan
     ensures { λ d. ⌜ ((n : ℕ) → planned r (memory (now (bits .entry)) (now (tags .entry)) []) d ≡ decide r (memory (now (bits .entry)) (now (tags .entry)) []) n (actionOf code)) ⌝ }
 {
     if r.sp < 2 {
-        return plans::refuse(Shape::TooFewValues);
+        return TOO_FEW_VALUES;
     }
     on_pair(
         code,

@@ -6,6 +6,7 @@ ghost use lib.ListN.{length};
 ghost use Rattle.rules.specs.State.{memory, cellAt};
 ghost use Rattle.machine.specs.declared.plans.Rare.the-variants.{Swap};
 ghost use Rattle.machine.specs.Plan.{swaps, fills, frames, links, halts, rarely};
+use crate::cells::INT_ZERO;
 use crate::cells::cell_at;
 use crate::plans::Plan;
 use crate::plans::Rare;
@@ -54,8 +55,8 @@ fn fills(r: Registers, d: Plan) -> Effect
         halt: 0,
         at: d.at,
         count,
-        first: Cell { bits: 0, tag: 0 },
-        second: Cell { bits: 0, tag: 0 },
+        first: INT_ZERO,
+        second: INT_ZERO,
     }
 }
 
@@ -70,8 +71,8 @@ fn frames(d: Plan) -> Effect
         halt: 0,
         at: 0,
         count: 0,
-        first: Cell { bits: 0, tag: 0 },
-        second: Cell { bits: 0, tag: 0 },
+        first: INT_ZERO,
+        second: INT_ZERO,
     }
 }
 
@@ -90,7 +91,7 @@ fn links(r: Registers, d: Plan) -> Effect
             bits: d.bits,
             tag: d.tag,
         },
-        second: Cell { bits: 0, tag: 0 },
+        second: INT_ZERO,
     }
 }
 
@@ -105,8 +106,8 @@ fn halts(r: Registers, d: Plan) -> Effect
         halt: 1,
         at: 0,
         count: 0,
-        first: Cell { bits: 0, tag: 0 },
-        second: Cell { bits: 0, tag: 0 },
+        first: INT_ZERO,
+        second: INT_ZERO,
     }
 }
 

@@ -13,9 +13,11 @@ use crate::addresses;
 use crate::cells::float_cell;
 use crate::cells::int_cell;
 use crate::plans;
+use crate::plans::BAD_ADDRESS;
+use crate::plans::NO_RESULT;
 use crate::plans::Plan;
-use crate::plans::Shape;
-use crate::plans::refuse;
+use crate::plans::TOO_FEW_VALUES;
+use crate::plans::WRONG_TAG;
 use rules::Cell;
 use rules::ProgramAddress;
 use rules::Registers;
@@ -26,7 +28,7 @@ pub(crate) fn on_dup(r: Registers, top: Cell) -> Plan
     ensures { λ d. ⌜ Means r d (onDup r top) ⌝ }
 {
     if r.sp < 1 {
-        return refuse(Shape::TooFewValues);
+        return TOO_FEW_VALUES;
     }
     plans::result(r, 0, top)
 }
@@ -36,7 +38,7 @@ pub(crate) fn on_swap(r: Registers, top: Cell) -> Plan
     ensures { λ d. ⌜ ((m : Memory) → planned r m d ≡ onSwap r (cellAt m (record { 0 = r .sp - 2 })) top) ⌝ }
 {
     if r.sp < 2 {
-        return refuse(Shape::TooFewValues);
+        return TOO_FEW_VALUES;
     }
     plans::swapped(r, top)
 }
@@ -48,7 +50,7 @@ pub(crate) fn on_sums(v: u32, r: Registers, below: Cell, top: Cell) -> Plan
 {
     let tag = below.tag;
     if top.tag != tags::INT {
-        return refuse(Shape::WrongTag);
+        return WRONG_TAG;
     }
     if tag == tags::INT {
         return plans::result(r, 2, Cell { bits: v, tag });
@@ -56,7 +58,7 @@ pub(crate) fn on_sums(v: u32, r: Registers, below: Cell, top: Cell) -> Plan
     if tag == tags::MA {
         return plans::result(r, 2, Cell { bits: v, tag });
     }
-    refuse(Shape::WrongTag)
+    WRONG_TAG
 }
 
 // Two INTs, and an INT as the result.
@@ -65,10 +67,10 @@ pub(crate) fn on_ints(v: u32, r: Registers, below: Cell, top: Cell) -> Plan
     ensures { λ d. ⌜ Means r d (onInts v r below top) ⌝ }
 {
     if below.tag != tags::INT {
-        return refuse(Shape::WrongTag);
+        return WRONG_TAG;
     }
     if top.tag != tags::INT {
-        return refuse(Shape::WrongTag);
+        return WRONG_TAG;
     }
     plans::result(r, 2, int_cell(v))
 }
@@ -79,13 +81,13 @@ pub(crate) fn on_divides(v: u32, r: Registers, below: Cell, top: Cell) -> Plan
     ensures { λ d. ⌜ Means r d (onDivides v r below top) ⌝ }
 {
     if below.tag != tags::INT {
-        return refuse(Shape::WrongTag);
+        return WRONG_TAG;
     }
     if top.tag != tags::INT {
-        return refuse(Shape::WrongTag);
+        return WRONG_TAG;
     }
     if top.bits == 0 {
-        return refuse(Shape::NoResult);
+        return NO_RESULT;
     }
     plans::result(r, 2, int_cell(v))
 }
@@ -96,10 +98,10 @@ pub(crate) fn on_floats(v: u32, r: Registers, below: Cell, top: Cell) -> Plan
     ensures { λ d. ⌜ Means r d (onFloats v r below top) ⌝ }
 {
     if below.tag != tags::FLOAT {
-        return refuse(Shape::WrongTag);
+        return WRONG_TAG;
     }
     if top.tag != tags::FLOAT {
-        return refuse(Shape::WrongTag);
+        return WRONG_TAG;
     }
     plans::result(r, 2, float_cell(v))
 }
@@ -110,13 +112,13 @@ pub(crate) fn on_compare_floats(r: Registers, below: Cell, top: Cell) -> Plan
     ensures { λ d. ⌜ Means r d (onCompareFloats r below top) ⌝ }
 {
     if below.tag != tags::FLOAT {
-        return refuse(Shape::WrongTag);
+        return WRONG_TAG;
     }
     if top.tag != tags::FLOAT {
-        return refuse(Shape::WrongTag);
+        return WRONG_TAG;
     }
     if floats::unordered(below.bits, top.bits) {
-        return refuse(Shape::NoResult);
+        return NO_RESULT;
     }
     let v = floats::ordered_f(below.bits, top.bits);
     plans::result(r, 2, int_cell(v))
@@ -128,10 +130,10 @@ fn on_one(v: u32, r: Registers, top: Cell) -> Plan
     ensures { λ d. ⌜ Means r d (onOne v r top) ⌝ }
 {
     if r.sp < 1 {
-        return refuse(Shape::TooFewValues);
+        return TOO_FEW_VALUES;
     }
     if top.tag != tags::INT {
-        return refuse(Shape::WrongTag);
+        return WRONG_TAG;
     }
     plans::result(r, 1, int_cell(v))
 }
@@ -187,7 +189,7 @@ pub(crate) fn on_is_nil(r: Registers, top: Cell) -> Plan
     ensures { λ d. ⌜ Means r d (onIsNil r top) ⌝ }
 {
     if r.sp < 1 {
-        return refuse(Shape::TooFewValues);
+        return TOO_FEW_VALUES;
     }
     let v = word::tests::is_nil(top.bits);
     plans::result(r, 1, int_cell(v))
@@ -199,13 +201,13 @@ pub(crate) fn on_pop_sp(r: Registers, top: Cell) -> Plan
     ensures { λ d. ⌜ Means r d (onPopSp r top) ⌝ }
 {
     if r.sp < 1 {
-        return refuse(Shape::TooFewValues);
+        return TOO_FEW_VALUES;
     }
     if top.tag != tags::MA {
-        return refuse(Shape::WrongTag);
+        return WRONG_TAG;
     }
     if !addresses::inside(top.bits, r.n) {
-        return refuse(Shape::BadAddress);
+        return BAD_ADDRESS;
     }
     plans::moved(r, r.sp - 1, addresses::memory_address(top.bits))
 }
@@ -216,13 +218,13 @@ pub(crate) fn on_pop_fbr(r: Registers, top: Cell) -> Plan
     ensures { λ d. ⌜ Means r d (onPopFbr r top) ⌝ }
 {
     if r.sp < 1 {
-        return refuse(Shape::TooFewValues);
+        return TOO_FEW_VALUES;
     }
     if top.tag != tags::MA {
-        return refuse(Shape::WrongTag);
+        return WRONG_TAG;
     }
     if !addresses::inside(top.bits, r.n) {
-        return refuse(Shape::BadAddress);
+        return BAD_ADDRESS;
     }
     plans::framed(r, addresses::memory_address(top.bits))
 }
@@ -233,10 +235,10 @@ pub(crate) fn on_jump_c(r: Registers, target: u32, top: Cell) -> Plan
     ensures { λ d. ⌜ Means r d (onJumpC r target top) ⌝ }
 {
     if r.sp < 1 {
-        return refuse(Shape::TooFewValues);
+        return TOO_FEW_VALUES;
     }
     if top.tag != tags::INT {
-        return refuse(Shape::WrongTag);
+        return WRONG_TAG;
     }
     if top.bits == 0 {
         return plans::jumped(r, 1, ProgramAddress(r.pc + 1));
@@ -249,10 +251,10 @@ pub(crate) fn on_jump_ind(r: Registers, top: Cell) -> Plan
     ensures { λ d. ⌜ Means r d (onJumpInd r top) ⌝ }
 {
     if r.sp < 1 {
-        return refuse(Shape::TooFewValues);
+        return TOO_FEW_VALUES;
     }
     if top.tag != tags::PA {
-        return refuse(Shape::WrongTag);
+        return WRONG_TAG;
     }
     plans::jumped(r, 1, ProgramAddress(top.bits as usize))
 }
@@ -262,10 +264,10 @@ pub(crate) fn on_jsr_ind(r: Registers, top: Cell) -> Plan
     ensures { λ d. ⌜ Means r d (onJsrInd r top) ⌝ }
 {
     if r.sp < 1 {
-        return refuse(Shape::TooFewValues);
+        return TOO_FEW_VALUES;
     }
     if top.tag != tags::PA {
-        return refuse(Shape::WrongTag);
+        return WRONG_TAG;
     }
     plans::called(r, 1, ProgramAddress(top.bits as usize))
 }

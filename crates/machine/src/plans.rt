@@ -6,7 +6,7 @@ ghost use Rattle.rules.specs.State.{Memory, cellAt};
 ghost use Rattle.rules.specs.Decide.{result, swapped, stored, moved, framed, linked, jumped, called, halted};
 ghost use Rattle.rules.specs.declared.Decision.the-variants.{Does};
 ghost use Rattle.machine.specs.Small.{Small};
-ghost use Rattle.machine.specs.Plan.{planned, Means, refusing};
+ghost use Rattle.machine.specs.Plan.{planned, Means};
 use rules::Cell;
 use rules::MemoryAddress;
 use rules::ProgramAddress;
@@ -45,20 +45,46 @@ pub struct Plan {
     pub tag: u8,
 }
 
-// A refusal.
-pub(crate) fn refuse(shape: Shape) -> Plan
-    ensures { λ d. ⌜ d ≡ refusing shape ⌝ }
-{
-    Plan {
-        shape,
-        rare: Rare::Halt,
-        pc: 0,
-        sp: 0,
-        at: 0,
-        bits: 0,
-        tag: tags::INT,
-    }
-}
+// The refusals 3 to 6.
+pub(crate) const TOO_FEW_VALUES: Plan = Plan {
+    shape: Shape::TooFewValues,
+    rare: Rare::Halt,
+    pc: 0,
+    sp: 0,
+    at: 0,
+    bits: 0,
+    tag: tags::INT,
+};
+
+pub(crate) const WRONG_TAG: Plan = Plan {
+    shape: Shape::WrongTag,
+    rare: Rare::Halt,
+    pc: 0,
+    sp: 0,
+    at: 0,
+    bits: 0,
+    tag: tags::INT,
+};
+
+pub(crate) const NO_RESULT: Plan = Plan {
+    shape: Shape::NoResult,
+    rare: Rare::Halt,
+    pc: 0,
+    sp: 0,
+    at: 0,
+    bits: 0,
+    tag: tags::INT,
+};
+
+pub(crate) const BAD_ADDRESS: Plan = Plan {
+    shape: Shape::BadAddress,
+    rare: Rare::Halt,
+    pc: 0,
+    sp: 0,
+    at: 0,
+    bits: 0,
+    tag: tags::INT,
+};
 
 // `popped` values are popped and a cell is pushed.
 pub(crate) fn result(r: Registers, popped: usize, c: Cell) -> Plan

@@ -1,5 +1,5 @@
 -- `machine::addresses::on_add_sp` meets its contract. Assumes nothing.
-use mathlib.Core.Path.{ap, _∙_}
+use mathlib.Core.Path.{_∙_}
 use Rattle.machine.proofs.Reach.{add-to, add-below}
 use Rattle.machine.specs.Plan.{planned}
 use borrow.Author.Needs.{needs}
@@ -18,9 +18,6 @@ moved-requires c κs = search needs
 enum-told : tie.Need-enum-told
 enum-told c = search needs
 
-refuse-requires : tie.Need-refuse-requires
-refuse-requires c κs = search needs
-
 returns : tie.Need-returns
 returns c m =
     let a = c .before .before .before .before .before .args in
@@ -29,17 +26,9 @@ returns c m =
 returns-2 : tie.Need-returns-2
 unfolding planned
 returns-2 c m =
-    let a = c .before .before .before .before .args in
-    ap (planned (a .r) m) (c .refuse .ensures) ∙ add-below (a .r) (a .offset) (rw (c .before .enum-told .given .1) at (c .before .before .before .moved-by .ensures))
+    let a = c .before .before .before .args in
+    add-below (a .r) (a .offset) (rw (c .enum-told .given .1) at (c .before .before .moved-by .ensures))
 
 pub on-add-sp-spec : {M : Type 1} → statement M
 on-add-sp-spec =
-    tie.close
-    (tie.spec
-    moved-by-requires
-    enum-known-to
-    moved-requires
-    enum-told
-    refuse-requires
-    returns
-    returns-2)
+    tie.close (tie.spec moved-by-requires enum-known-to moved-requires enum-told returns returns-2)

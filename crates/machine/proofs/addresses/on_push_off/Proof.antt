@@ -23,26 +23,20 @@ returns c m =
     let a = c .before .before .before .before .before .before .before .before .before .before .before .args in
     rw (c .result .ensures m, c .before .cell-at .ensures, frame-in (a .r) (a .offset) (a .r .sp) (c .before .before .before .before .before .before .to .given .0 .0) (rw (c .before .before .before .before .before .before .to .given .1) at (c .before .before .before .before .before .before .before .before .moved-by .ensures)) (c .before .before .if1 .taken), frame-at (a .r) (a .offset) (c .before .before .before .before .before .before .to .given .0 .0) (rw (c .before .before .before .before .before .before .to .given .1) at (c .before .before .before .before .before .before .before .before .moved-by .ensures)))
 
-refuse-requires : tie.Need-refuse-requires
-refuse-requires c κs = search needs
-
 enum-told : tie.Need-enum-told
 enum-told c = search needs
-
-refuse-requires-2 : tie.Need-refuse-requires-2
-refuse-requires-2 c κs = search needs
 
 returns-2 : tie.Need-returns-2
 unfolding planned
 returns-2 c m =
-    let a = c .before .before .before .before .before .before .before .before .before .before .args in
-    rw (c .refuse .ensures, frame-out (a .r) (a .offset) (a .r .sp) (c .before .before .before .before .before .to .given .0 .0) (rw (c .before .before .before .before .before .to .given .1) at (c .before .before .before .before .before .before .before .moved-by .ensures)) (c .before .if1 .left))
+    let a = c .before .before .before .before .before .before .before .before .before .args in
+    rw (frame-out (a .r) (a .offset) (a .r .sp) (c .before .before .before .before .to .given .0 .0) (rw (c .before .before .before .before .to .given .1) at (c .before .before .before .before .before .before .moved-by .ensures)) (c .if1 .left))
 
 returns-3 : tie.Need-returns-3
 unfolding planned
 returns-3 c m =
-    let a = c .before .before .before .before .before .before .args in
-    rw (c .refuse2 .ensures, frame-below (a .r) (a .offset) (a .r .sp) (rw (c .before .enum-told .given .1) at (c .before .before .before .moved-by .ensures)))
+    let a = c .before .before .before .before .before .args in
+    rw (frame-below (a .r) (a .offset) (a .r .sp) (rw (c .enum-told .given .1) at (c .before .before .moved-by .ensures)))
 
 pub on-push-off-spec : {M : Type 1} → statement M
 on-push-off-spec =
@@ -53,8 +47,6 @@ on-push-off-spec =
     cell-at-requires
     result-requires
     returns
-    refuse-requires
     enum-told
-    refuse-requires-2
     returns-2
     returns-3)

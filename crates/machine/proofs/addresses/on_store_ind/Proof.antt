@@ -6,29 +6,20 @@ use borrow.Author.Needs.{needs}
 use Rattle.machine.proofs.addresses.on_store_ind.Statement.{statement}
 use Rattle.machine.proofs.addresses.on_store_ind.Tie as tie
 
-refuse-requires : tie.Need-refuse-requires
-refuse-requires c κs = search needs
-
 returns : tie.Need-returns
 unfolding planned
-returns c m = rw (c .refuse .ensures, lt-leb _ _ (c .before .if1 .taken))
-
-refuse-requires-2 : tie.Need-refuse-requires-2
-refuse-requires-2 c κs = search needs
+returns c m = rw (lt-leb _ _ (c .if1 .taken))
 
 returns-2 : tie.Need-returns-2
 unfolding planned
-returns-2 c m = rw (c .refuse2 .ensures, le-leb _ _ (c .before .before .before .if1 .left), ne-eqb _ _ (c .before .if2 .taken))
+returns-2 c m = rw (le-leb _ _ (c .before .before .if1 .left), ne-eqb _ _ (c .if2 .taken))
 
 inside-requires : tie.Need-inside-requires
 inside-requires c κs = search needs
 
-refuse-requires-3 : tie.Need-refuse-requires-3
-refuse-requires-3 c κs = search needs
-
 returns-3 : tie.Need-returns-3
 unfolding planned
-returns-3 c m = rw (c .refuse3 .ensures, le-leb _ _ (c .before .before .before .before .before .before .if1 .left), c .before .before .before .before .if2 .left, sym (c .before .before .inside .ensures) ∙ not-true _ (c .before .if3 .taken))
+returns-3 c m = rw (le-leb _ _ (c .before .before .before .before .before .if1 .left), c .before .before .before .if2 .left, sym (c .before .inside .ensures) ∙ not-true _ (c .if3 .taken))
 
 memory-address-requires : tie.Need-memory-address-requires
 memory-address-requires c κs = search needs
@@ -44,12 +35,9 @@ pub on-store-ind-spec : {M : Type 1} → statement M
 on-store-ind-spec =
     tie.close
     (tie.spec
-    refuse-requires
     returns
-    refuse-requires-2
     returns-2
     inside-requires
-    refuse-requires-3
     returns-3
     memory-address-requires
     stored-requires

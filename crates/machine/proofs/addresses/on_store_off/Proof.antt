@@ -7,12 +7,9 @@ use borrow.Author.Needs.{needs}
 use Rattle.machine.proofs.addresses.on_store_off.Statement.{statement}
 use Rattle.machine.proofs.addresses.on_store_off.Tie as tie
 
-refuse-requires : tie.Need-refuse-requires
-refuse-requires c κs = search needs
-
 returns : tie.Need-returns
 unfolding planned
-returns c m = rw (c .refuse .ensures, lt-leb _ _ (c .before .if1 .taken))
+returns c m = rw (lt-leb _ _ (c .if1 .taken))
 
 moved-by-requires : tie.Need-moved-by-requires
 moved-by-requires c κs = search needs
@@ -29,39 +26,30 @@ returns-2 c m =
     let a = c .before .before .before .before .before .before .before .before .before .before .args in
     rw (c .stored .ensures m, le-leb _ _ (c .before .before .before .before .before .before .before .before .if1 .left), frame-in (a .r) (a .offset) (a .r .sp - 1) (c .before .before .before .before .before .to .given .0 .0) (rw (c .before .before .before .before .before .to .given .1) at (c .before .before .before .before .before .before .before .moved-by .ensures)) (c .before .if2 .taken), frame-at (a .r) (a .offset) (c .before .before .before .before .before .to .given .0 .0) (rw (c .before .before .before .before .before .to .given .1) at (c .before .before .before .before .before .before .before .moved-by .ensures)))
 
-refuse-requires-2 : tie.Need-refuse-requires-2
-refuse-requires-2 c κs = search needs
-
 enum-told : tie.Need-enum-told
 enum-told c = search needs
-
-refuse-requires-3 : tie.Need-refuse-requires-3
-refuse-requires-3 c κs = search needs
 
 returns-3 : tie.Need-returns-3
 unfolding planned
 returns-3 c m =
-    let a = c .before .before .before .before .before .before .before .before .before .before .args in
-    rw (c .refuse2 .ensures, le-leb _ _ (c .before .before .before .before .before .before .before .before .if1 .left), frame-out (a .r) (a .offset) (a .r .sp - 1) (c .before .before .before .before .before .to .given .0 .0) (rw (c .before .before .before .before .before .to .given .1) at (c .before .before .before .before .before .before .before .moved-by .ensures)) (c .before .if2 .left))
+    let a = c .before .before .before .before .before .before .before .before .before .args in
+    rw (le-leb _ _ (c .before .before .before .before .before .before .before .if1 .left), frame-out (a .r) (a .offset) (a .r .sp - 1) (c .before .before .before .before .to .given .0 .0) (rw (c .before .before .before .before .to .given .1) at (c .before .before .before .before .before .before .moved-by .ensures)) (c .if2 .left))
 
 returns-4 : tie.Need-returns-4
 unfolding planned
 returns-4 c m =
-    let a = c .before .before .before .before .before .before .args in
-    rw (c .refuse3 .ensures, le-leb _ _ (c .before .before .before .before .if1 .left), frame-below (a .r) (a .offset) (a .r .sp - 1) (rw (c .before .enum-told .given .1) at (c .before .before .before .moved-by .ensures)))
+    let a = c .before .before .before .before .before .args in
+    rw (le-leb _ _ (c .before .before .before .if1 .left), frame-below (a .r) (a .offset) (a .r .sp - 1) (rw (c .enum-told .given .1) at (c .before .before .moved-by .ensures)))
 
 pub on-store-off-spec : {M : Type 1} → statement M
 on-store-off-spec =
     tie.close
     (tie.spec
-    refuse-requires
     returns
     moved-by-requires
     enum-known-to
     stored-requires
     returns-2
-    refuse-requires-2
     enum-told
-    refuse-requires-3
     returns-3
     returns-4)

@@ -1,6 +1,6 @@
 -- `machine::decide::on_two` meets its contract. Assumes nothing.
-use mathlib.Core.Path.{sym, ap, _∙_}
 use Prim.Native.Nat.{_-_}
+use mathlib.Core.Path.{sym, _∙_}
 use mathlib.Core.List.{[]}
 use Rattle.rules.specs.State.{memory, cellAt}
 use Rattle.rules.specs.Decide.{decide}
@@ -10,17 +10,13 @@ use borrow.Author.Needs.{needs}
 use Rattle.machine.proofs.decide.on_two.Statement.{statement}
 use Rattle.machine.proofs.decide.on_two.Tie as tie
 
-refuse-requires : tie.Need-refuse-requires
-refuse-requires c κs = search needs
-
 returns : tie.Need-returns
 unfolding decide planned
 returns c n =
-    let a = c .before .before .before .before .before .args in
+    let a = c .before .before .before .before .args in
     let r = a .r in
     let m = memory (a .bits .now) (a .tags .now) [] in
-    ap (planned r m) (c .refuse .ensures)
-    ∙ sym (pair-few r m n (cellAt m (record { 0 = r .sp - 2 })) (cellAt m (record { 0 = r .sp - 1 })) (c .before .if1 .taken) (a .code) (c .before .before .before .before .before .pre .2))
+    sym (pair-few r m n (cellAt m (record { 0 = r .sp - 2 })) (cellAt m (record { 0 = r .sp - 1 })) (c .if1 .taken) (a .code) (c .before .before .before .before .pre .2))
 
 second-requires : tie.Need-second-requires
 second-requires c κs = search needs
@@ -36,6 +32,4 @@ unfolding decide
 returns-2 c n = c .on-pair .ensures _ n ∙ rw (c .before .before .second .ensures, c .before .top .ensures)
 
 pub on-two-spec : {M : Type 1} → statement M
-on-two-spec =
-    tie.close
-    (tie.spec refuse-requires returns second-requires top-requires on-pair-requires returns-2)
+on-two-spec = tie.close (tie.spec returns second-requires top-requires on-pair-requires returns-2)

@@ -6,29 +6,20 @@ use borrow.Author.Needs.{needs}
 use Rattle.machine.proofs.families.on_compare_floats.Statement.{statement}
 use Rattle.machine.proofs.families.on_compare_floats.Tie as tie
 
-refuse-requires : tie.Need-refuse-requires
-refuse-requires c κs = search needs
-
 returns : tie.Need-returns
 unfolding planned
-returns c m = rw (c .refuse .ensures, le-leb _ _ (c .before .before .before .pre .1), ne-eqb _ _ (c .before .if1 .taken))
-
-refuse-requires-2 : tie.Need-refuse-requires-2
-refuse-requires-2 c κs = search needs
+returns c m = rw (le-leb _ _ (c .before .before .pre .1), ne-eqb _ _ (c .if1 .taken))
 
 returns-2 : tie.Need-returns-2
 unfolding planned
-returns-2 c m = rw (c .refuse2 .ensures, le-leb _ _ (c .before .before .before .before .before .pre .1), c .before .before .before .if1 .left, ne-eqb _ _ (c .before .if2 .taken))
+returns-2 c m = rw (le-leb _ _ (c .before .before .before .before .pre .1), c .before .before .if1 .left, ne-eqb _ _ (c .if2 .taken))
 
 unordered-requires : tie.Need-unordered-requires
 unordered-requires c κs = search needs
 
-refuse-requires-3 : tie.Need-refuse-requires-3
-refuse-requires-3 c κs = search needs
-
 returns-3 : tie.Need-returns-3
 unfolding planned
-returns-3 c m = rw (c .refuse3 .ensures, le-leb _ _ (c .before .before .before .before .before .before .before .pre .1), c .before .before .before .before .before .if1 .left, c .before .before .before .if2 .left, sym (c .before .before .unordered .ensures) ∙ c .before .if3 .taken)
+returns-3 c m = rw (le-leb _ _ (c .before .before .before .before .before .before .pre .1), c .before .before .before .before .if1 .left, c .before .before .if2 .left, sym (c .before .unordered .ensures) ∙ c .if3 .taken)
 
 ordered-f-requires : tie.Need-ordered-f-requires
 ordered-f-requires c κs = search needs
@@ -47,12 +38,9 @@ pub on-compare-floats-spec : {M : Type 1} → statement M
 on-compare-floats-spec =
     tie.close
     (tie.spec
-    refuse-requires
     returns
-    refuse-requires-2
     returns-2
     unordered-requires
-    refuse-requires-3
     returns-3
     ordered-f-requires
     int-cell-requires

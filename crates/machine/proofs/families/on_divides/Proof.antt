@@ -5,26 +5,17 @@ use borrow.Author.Needs.{needs}
 use Rattle.machine.proofs.families.on_divides.Statement.{statement}
 use Rattle.machine.proofs.families.on_divides.Tie as tie
 
-refuse-requires : tie.Need-refuse-requires
-refuse-requires c κs = search needs
-
 returns : tie.Need-returns
 unfolding planned
-returns c m = rw (c .refuse .ensures, le-leb _ _ (c .before .before .before .pre .1), ne-eqb _ _ (c .before .if1 .taken))
-
-refuse-requires-2 : tie.Need-refuse-requires-2
-refuse-requires-2 c κs = search needs
+returns c m = rw (le-leb _ _ (c .before .before .pre .1), ne-eqb _ _ (c .if1 .taken))
 
 returns-2 : tie.Need-returns-2
 unfolding planned
-returns-2 c m = rw (c .refuse2 .ensures, le-leb _ _ (c .before .before .before .before .before .pre .1), c .before .before .before .if1 .left, ne-eqb _ _ (c .before .if2 .taken))
-
-refuse-requires-3 : tie.Need-refuse-requires-3
-refuse-requires-3 c κs = search needs
+returns-2 c m = rw (le-leb _ _ (c .before .before .before .before .pre .1), c .before .before .if1 .left, ne-eqb _ _ (c .if2 .taken))
 
 returns-3 : tie.Need-returns-3
 unfolding planned
-returns-3 c m = rw (c .refuse3 .ensures, le-leb _ _ (c .before .before .before .before .before .before .before .pre .1), c .before .before .before .before .before .if1 .left, c .before .before .before .if2 .left, c .before .if3 .taken)
+returns-3 c m = rw (le-leb _ _ (c .before .before .before .before .before .before .pre .1), c .before .before .before .before .if1 .left, c .before .before .if2 .left, c .if3 .taken)
 
 int-cell-requires : tie.Need-int-cell-requires
 int-cell-requires c κs = search needs
@@ -38,14 +29,4 @@ returns-4 c m = rw (c .result .ensures m, c .before .int-cell .ensures, le-leb _
 
 pub on-divides-spec : {M : Type 1} → statement M
 on-divides-spec =
-    tie.close
-    (tie.spec
-    refuse-requires
-    returns
-    refuse-requires-2
-    returns-2
-    refuse-requires-3
-    returns-3
-    int-cell-requires
-    result-requires
-    returns-4)
+    tie.close (tie.spec returns returns-2 returns-3 int-cell-requires result-requires returns-4)

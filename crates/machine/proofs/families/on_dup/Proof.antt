@@ -5,12 +5,9 @@ use borrow.Author.Needs.{needs}
 use Rattle.machine.proofs.families.on_dup.Statement.{statement}
 use Rattle.machine.proofs.families.on_dup.Tie as tie
 
-refuse-requires : tie.Need-refuse-requires
-refuse-requires c κs = search needs
-
 returns : tie.Need-returns
 unfolding planned
-returns c m = rw (c .refuse .ensures, lt-leb _ _ (c .before .if1 .taken))
+returns c m = rw (lt-leb _ _ (c .if1 .taken))
 
 result-requires : tie.Need-result-requires
 result-requires c κs = search needs
@@ -20,4 +17,4 @@ unfolding planned
 returns-2 c m = rw (c .result .ensures m, le-leb _ _ (c .before .if1 .left))
 
 pub on-dup-spec : {M : Type 1} → statement M
-on-dup-spec = tie.close (tie.spec refuse-requires returns result-requires returns-2)
+on-dup-spec = tie.close (tie.spec returns result-requires returns-2)

@@ -5,19 +5,13 @@ use borrow.Author.Needs.{needs}
 use Rattle.machine.proofs.families.on_floats.Statement.{statement}
 use Rattle.machine.proofs.families.on_floats.Tie as tie
 
-refuse-requires : tie.Need-refuse-requires
-refuse-requires c κs = search needs
-
 returns : tie.Need-returns
 unfolding planned
-returns c m = rw (c .refuse .ensures, le-leb _ _ (c .before .before .before .pre .1), ne-eqb _ _ (c .before .if1 .taken))
-
-refuse-requires-2 : tie.Need-refuse-requires-2
-refuse-requires-2 c κs = search needs
+returns c m = rw (le-leb _ _ (c .before .before .pre .1), ne-eqb _ _ (c .if1 .taken))
 
 returns-2 : tie.Need-returns-2
 unfolding planned
-returns-2 c m = rw (c .refuse2 .ensures, le-leb _ _ (c .before .before .before .before .before .pre .1), c .before .before .before .if1 .left, ne-eqb _ _ (c .before .if2 .taken))
+returns-2 c m = rw (le-leb _ _ (c .before .before .before .before .pre .1), c .before .before .if1 .left, ne-eqb _ _ (c .if2 .taken))
 
 float-cell-requires : tie.Need-float-cell-requires
 float-cell-requires c κs = search needs
@@ -31,12 +25,4 @@ returns-3 c m = rw (c .result .ensures m, c .before .float-cell .ensures, le-leb
 
 pub on-floats-spec : {M : Type 1} → statement M
 on-floats-spec =
-    tie.close
-    (tie.spec
-    refuse-requires
-    returns
-    refuse-requires-2
-    returns-2
-    float-cell-requires
-    result-requires
-    returns-3)
+    tie.close (tie.spec returns returns-2 float-cell-requires result-requires returns-3)

@@ -5,19 +5,13 @@ use borrow.Author.Needs.{needs}
 use Rattle.machine.proofs.families.on_ints.Statement.{statement}
 use Rattle.machine.proofs.families.on_ints.Tie as tie
 
-refuse-requires : tie.Need-refuse-requires
-refuse-requires c κs = search needs
-
 returns : tie.Need-returns
 unfolding planned
-returns c m = rw (c .refuse .ensures, le-leb _ _ (c .before .before .before .pre .1), ne-eqb _ _ (c .before .if1 .taken))
-
-refuse-requires-2 : tie.Need-refuse-requires-2
-refuse-requires-2 c κs = search needs
+returns c m = rw (le-leb _ _ (c .before .before .pre .1), ne-eqb _ _ (c .if1 .taken))
 
 returns-2 : tie.Need-returns-2
 unfolding planned
-returns-2 c m = rw (c .refuse2 .ensures, le-leb _ _ (c .before .before .before .before .before .pre .1), c .before .before .before .if1 .left, ne-eqb _ _ (c .before .if2 .taken))
+returns-2 c m = rw (le-leb _ _ (c .before .before .before .before .pre .1), c .before .before .if1 .left, ne-eqb _ _ (c .if2 .taken))
 
 int-cell-requires : tie.Need-int-cell-requires
 int-cell-requires c κs = search needs
@@ -30,13 +24,4 @@ unfolding planned
 returns-3 c m = rw (c .result .ensures m, c .before .int-cell .ensures, le-leb _ _ (c .before .before .before .before .before .before .pre .1), c .before .before .before .before .if1 .left, c .before .before .if2 .left)
 
 pub on-ints-spec : {M : Type 1} → statement M
-on-ints-spec =
-    tie.close
-    (tie.spec
-    refuse-requires
-    returns
-    refuse-requires-2
-    returns-2
-    int-cell-requires
-    result-requires
-    returns-3)
+on-ints-spec = tie.close (tie.spec returns returns-2 int-cell-requires result-requires returns-3)

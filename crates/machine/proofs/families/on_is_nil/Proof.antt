@@ -5,12 +5,9 @@ use borrow.Author.Needs.{needs}
 use Rattle.machine.proofs.families.on_is_nil.Statement.{statement}
 use Rattle.machine.proofs.families.on_is_nil.Tie as tie
 
-refuse-requires : tie.Need-refuse-requires
-refuse-requires c κs = search needs
-
 returns : tie.Need-returns
 unfolding planned
-returns c m = rw (c .refuse .ensures, lt-leb _ _ (c .before .if1 .taken))
+returns c m = rw (lt-leb _ _ (c .if1 .taken))
 
 is-nil-requires : tie.Need-is-nil-requires
 is-nil-requires c κs = search needs
@@ -27,5 +24,4 @@ returns-2 c m = rw (c .result .ensures m, c .before .int-cell .ensures, c .befor
 
 pub on-is-nil-spec : {M : Type 1} → statement M
 on-is-nil-spec =
-    tie.close
-    (tie.spec refuse-requires returns is-nil-requires int-cell-requires result-requires returns-2)
+    tie.close (tie.spec returns is-nil-requires int-cell-requires result-requires returns-2)

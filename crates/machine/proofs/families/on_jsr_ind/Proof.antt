@@ -5,22 +5,16 @@ use borrow.Author.Needs.{needs}
 use Rattle.machine.proofs.families.on_jsr_ind.Statement.{statement}
 use Rattle.machine.proofs.families.on_jsr_ind.Tie as tie
 
-refuse-requires : tie.Need-refuse-requires
-refuse-requires c κs = search needs
-
 returns : tie.Need-returns
 unfolding planned
-returns c m = rw (c .refuse .ensures, lt-leb _ _ (c .before .if1 .taken))
-
-refuse-requires-2 : tie.Need-refuse-requires-2
-refuse-requires-2 c κs = search needs
+returns c m = rw (lt-leb _ _ (c .if1 .taken))
 
 returns-2 : tie.Need-returns-2
 unfolding planned
-returns-2 c m = rw (c .refuse2 .ensures, le-leb _ _ (c .before .before .before .if1 .left), ne-eqb _ _ (c .before .if2 .taken))
+returns-2 c m = rw (le-leb _ _ (c .before .before .if1 .left), ne-eqb _ _ (c .if2 .taken))
 
-cast-t6 : tie.Need-cast-t6
-cast-t6 c = search needs
+cast-t8 : tie.Need-cast-t8
+cast-t8 c = search needs
 
 called-requires : tie.Need-called-requires
 called-requires c κs = search needs
@@ -30,13 +24,4 @@ unfolding planned
 returns-3 c m = rw (c .called .ensures m, le-leb _ _ (c .before .before .before .before .if1 .left), c .before .before .if2 .left)
 
 pub on-jsr-ind-spec : {M : Type 1} → statement M
-on-jsr-ind-spec =
-    tie.close
-    (tie.spec
-    refuse-requires
-    returns
-    refuse-requires-2
-    returns-2
-    cast-t6
-    called-requires
-    returns-3)
+on-jsr-ind-spec = tie.close (tie.spec returns returns-2 cast-t8 called-requires returns-3)

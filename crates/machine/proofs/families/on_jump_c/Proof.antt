@@ -5,22 +5,16 @@ use borrow.Author.Needs.{needs}
 use Rattle.machine.proofs.families.on_jump_c.Statement.{statement}
 use Rattle.machine.proofs.families.on_jump_c.Tie as tie
 
-refuse-requires : tie.Need-refuse-requires
-refuse-requires c κs = search needs
-
 returns : tie.Need-returns
 unfolding planned
-returns c m = rw (c .refuse .ensures, lt-leb _ _ (c .before .if1 .taken))
-
-refuse-requires-2 : tie.Need-refuse-requires-2
-refuse-requires-2 c κs = search needs
+returns c m = rw (lt-leb _ _ (c .if1 .taken))
 
 returns-2 : tie.Need-returns-2
 unfolding planned
-returns-2 c m = rw (c .refuse2 .ensures, le-leb _ _ (c .before .before .before .if1 .left), ne-eqb _ _ (c .before .if2 .taken))
+returns-2 c m = rw (le-leb _ _ (c .before .before .if1 .left), ne-eqb _ _ (c .if2 .taken))
 
-add-t7 : tie.Need-add-t7
-add-t7 c = search needs
+add-t9 : tie.Need-add-t9
+add-t9 c = search needs
 
 jumped-requires : tie.Need-jumped-requires
 jumped-requires c κs = search needs
@@ -39,13 +33,4 @@ returns-4 c m = rw (c .jumped2 .ensures m, le-leb _ _ (c .before .before .before
 pub on-jump-c-spec : {M : Type 1} → statement M
 on-jump-c-spec =
     tie.close
-    (tie.spec
-    refuse-requires
-    returns
-    refuse-requires-2
-    returns-2
-    add-t7
-    jumped-requires
-    returns-3
-    jumped-requires-2
-    returns-4)
+    (tie.spec returns returns-2 add-t9 jumped-requires returns-3 jumped-requires-2 returns-4)

@@ -5,12 +5,9 @@ use borrow.Author.Needs.{needs}
 use Rattle.machine.proofs.families.on_sums.Statement.{statement}
 use Rattle.machine.proofs.families.on_sums.Tie as tie
 
-refuse-requires : tie.Need-refuse-requires
-refuse-requires c κs = search needs
-
 returns : tie.Need-returns
 unfolding planned
-returns c m = rw (c .refuse .ensures, le-leb _ _ (c .before .before .before .pre .1), ne-eqb _ _ (c .before .if1 .taken))
+returns c m = rw (le-leb _ _ (c .before .before .pre .1), ne-eqb _ _ (c .if1 .taken))
 
 result-requires : tie.Need-result-requires
 result-requires c κs = search needs
@@ -26,22 +23,10 @@ returns-3 : tie.Need-returns-3
 unfolding planned
 returns-3 c m = rw (c .result2 .ensures m, le-leb _ _ (c .before .before .before .before .before .pre .1), c .before .before .before .if1 .left, ne-eqb _ _ (c .before .before .if2 .left), c .before .if3 .taken)
 
-refuse-requires-2 : tie.Need-refuse-requires-2
-refuse-requires-2 c κs = search needs
-
 returns-4 : tie.Need-returns-4
 unfolding planned
-returns-4 c m = rw (c .refuse2 .ensures, le-leb _ _ (c .before .before .before .before .before .pre .1), c .before .before .before .if1 .left, ne-eqb _ _ (c .before .before .if2 .left), ne-eqb _ _ (c .before .if3 .left))
+returns-4 c m = rw (le-leb _ _ (c .before .before .before .before .pre .1), c .before .before .if1 .left, ne-eqb _ _ (c .before .if2 .left), ne-eqb _ _ (c .if3 .left))
 
 pub on-sums-spec : {M : Type 1} → statement M
 on-sums-spec =
-    tie.close
-    (tie.spec
-    refuse-requires
-    returns
-    result-requires
-    returns-2
-    result-requires-2
-    returns-3
-    refuse-requires-2
-    returns-4)
+    tie.close (tie.spec returns result-requires returns-2 result-requires-2 returns-3 returns-4)
