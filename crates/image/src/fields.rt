@@ -4,6 +4,7 @@ ghost use Prim.Native.Nat.{_+_, _*_, _^_, _<_, _≤_};
 ghost use lib.ListN.{length, take, drop};
 ghost use Rattle.rules.specs.Lists.{part, splice};
 ghost use Rattle.rules.specs.Fields.{field, value, bitsOf};
+ghost use Rattle.image.specs.Reach.{fieldReach};
 
 // 2 to the power k.
 fn power(k: usize) -> u32
@@ -44,7 +45,7 @@ fn piece_of(byte: u8, j: usize, n: usize) -> u32
 
 // Writes the low `width` bits of v at bit `at`.
 pub(crate) fn put(out: &mut [u8], at: usize, width: usize, v: u32)
-    requires { ⌜ (at ≤ 65536) × (width ≤ 32) × (at + width ≤ length (now out) * 8) ⌝ }
+    requires { ⌜ (at ≤ fieldReach) × (width ≤ 32) × (at + width ≤ length (now out) * 8) ⌝ }
     ensures { λ r. ⌜ bitsOf (now (out .exit)) ≡ splice (bitsOf (now (out .entry))) at (field width v) ⌝ }
 {
     let mut left = width;
@@ -61,7 +62,7 @@ pub(crate) fn put(out: &mut [u8], at: usize, width: usize, v: u32)
 
 // The number in the `width` bits from bit `at`.
 pub(crate) fn get(image: &[u8], at: usize, width: usize) -> u32
-    requires { ⌜ (at ≤ 65536) × (width ≤ 32) × (at + width ≤ length (now image) * 8) ⌝ }
+    requires { ⌜ (at ≤ fieldReach) × (width ≤ 32) × (at + width ≤ length (now image) * 8) ⌝ }
     ensures { λ r. ⌜ (r ≡ value (part at width (bitsOf (now (image .entry))))) × (r < 2 ^ width) ⌝ }
 {
     let mut left = width;

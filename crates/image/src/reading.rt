@@ -20,6 +20,7 @@ ghost use Rattle.rules.specs.Sizes.{maxProgram};
 ghost use Rattle.rules.specs.Instructions.{codes};
 ghost use Rattle.rules.specs.Fields.{bitsOf};
 ghost use Rattle.rules.specs.Image.{takeOperand, takeOne, bitsTaken, padded, unpacked, filed};
+ghost use Rattle.image.specs.Reach.{operandReach, instructionReach};
 
 fn clear_places(table: &mut [u64])
     ensures { λ r. ⌜ now (table .exit) ≡ replicate (length (now (table .entry))) 0 ⌝ }
@@ -33,7 +34,7 @@ fn clear_places(table: &mut [u64])
 
 // Whether the image has `width` bits from bit `at`.
 fn has_bits(image: &[u8], at: usize, width: usize) -> bool
-    requires { ⌜ (at ≤ 60000) × (width ≤ 32) ⌝ }
+    requires { ⌜ (at ≤ operandReach) × (width ≤ 32) ⌝ }
     ensures { λ r. ⌜ r ≡ leb (at + width) (length (now (image .entry)) * 8) ⌝ }
 {
     if (at + width + 7) / 8 <= image.len() {
@@ -44,7 +45,7 @@ fn has_bits(image: &[u8], at: usize, width: usize) -> bool
 
 // The operand of a code, at bit `at`, in a program of `count` instructions.
 fn take_operand(image: &[u8], at: usize, count: usize, code: usize) -> Taken
-    requires { ⌜ (at ≤ 60000) × (at ≤ length (now image) * 8) × (code < codes) ⌝ }
+    requires { ⌜ (at ≤ operandReach) × (at ≤ length (now image) * 8) × (code < codes) ⌝ }
     ensures taken { λ r. ⌜ r ≡ takeOperand count code (drop at (bitsOf (now (image .entry)))) ⌝ }
     ensures within { λ r. ⌜ (bitsTaken r ≤ 38) × (at + bitsTaken r ≤ length (now (image .entry)) * 8 + 6) ⌝ }
 {
@@ -65,7 +66,7 @@ fn take_operand(image: &[u8], at: usize, count: usize, code: usize) -> Taken
 
 // The instruction at bit `at`, in a program of `count` instructions.
 fn take_instruction(image: &[u8], at: usize, count: usize) -> Taken
-    requires { ⌜ (at ≤ 50000) × (at ≤ length (now image) * 8) ⌝ }
+    requires { ⌜ (at ≤ instructionReach) × (at ≤ length (now image) * 8) ⌝ }
     ensures taken { λ r. ⌜ r ≡ takeOne count (drop at (bitsOf (now (image .entry)))) ⌝ }
     ensures within { λ r. ⌜ (bitsTaken r ≤ 38) × (at + bitsTaken r ≤ length (now (image .entry)) * 8) ⌝ }
 {
@@ -81,7 +82,7 @@ fn take_instruction(image: &[u8], at: usize, count: usize) -> Taken
 
 // Whether what is left from bit `at` is less than a byte, and zero.
 fn is_padded(image: &[u8], at: usize) -> bool
-    requires { ⌜ (at ≤ 50000) × (at ≤ length (now image) * 8) ⌝ }
+    requires { ⌜ (at ≤ instructionReach) × (at ≤ length (now image) * 8) ⌝ }
     ensures { λ r. ⌜ r ≡ padded (drop at (bitsOf (now (image .entry)))) ⌝ }
 {
     let bytes = (at + 7) / 8;

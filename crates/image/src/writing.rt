@@ -14,6 +14,7 @@ ghost use Rattle.rules.specs.Fields.{bitsOf};
 ghost use Rattle.rules.specs.Table.{program};
 ghost use Rattle.rules.specs.Sizes.{maxProgram, imageSize};
 ghost use Rattle.rules.specs.Image.{instructionBits, imageBits, imageLength, packedTo};
+ghost use Rattle.image.specs.Reach.{operandReach, widest};
 
 pub(crate) fn clear_bytes(image: &mut [u8])
     ensures { λ r. ⌜ now (image .exit) ≡ replicate (length (now (image .entry))) 0 ⌝ }
@@ -27,9 +28,9 @@ pub(crate) fn clear_bytes(image: &mut [u8])
 
 // Writes the instruction at bit `at`, and tells the bit after it.
 fn put_instruction(image: &mut [u8], at: usize, place: u64) -> usize
-    requires { ⌜ (at ≤ 60000) × (at + 38 ≤ length (now image) * 8) ⌝ }
+    requires { ⌜ (at ≤ operandReach) × (at + widest ≤ length (now image) * 8) ⌝ }
     ensures bits { λ r. ⌜ bitsOf (now (image .exit)) ≡ splice (bitsOf (now (image .entry))) at (instructionBits place) ⌝ }
-    ensures next { λ r. ⌜ (r ≡ at + length (instructionBits place)) × (r ≤ at + 38) ⌝ }
+    ensures next { λ r. ⌜ (r ≡ at + length (instructionBits place)) × (r ≤ at + widest) ⌝ }
 {
     let code = code_of(place);
     let width = width_of(kind_of(code));

@@ -1,4 +1,5 @@
-// Commit: what an accepted step writes to the history and to the cells. One way serves every instruction: the effect says which cells.
+// Commit: what an accepted step writes to the history and to the cells, for an effect of any kind: it says which cells. A jump and one written
+// cell have a shorter way of their own (`carry`).
 use rules::Effect;
 use rules::Registers;
 ghost use mathlib.Core.Path.{_≡_};
@@ -24,7 +25,7 @@ fn zero_cells(bits: &mut [u32], tags: &mut [u8], from: usize, count: usize)
     }
 }
 
-// Writes the effect's block of cells. Most effects write none or one.
+// Writes the effect's block of cells: none, one, or more.
 fn put(e: Effect, bits: &mut [u32], tags: &mut [u8])
     requires { ⌜ (length (now tags) ≡ length (now bits)) × (e .at + e .count ≤ length (now bits)) ⌝ }
     ensures { λ _. ⌜ now (bits .exit) ≡ splice (now (bits .entry)) (e .at) (block (e .count) (e .first .bits) (e .second .bits)) ⌝ }

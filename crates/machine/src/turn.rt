@@ -1,4 +1,5 @@
-// A turn's answer: whether the step was made, the refusal where it was not, and the registers, which a refused step leaves.
+// A turn's answer: whether the step was made, the refusal where it was not, and the registers. Nobody reads the refusal of a step that was made, nor
+// the registers of one that was not.
 ghost use mathlib.Core.Path.{_≡_};
 ghost use Rattle.rules.specs.declared.Step.the-variants.{Next, Refused};
 ghost use Rattle.machine.specs.Turn.{answerOf};

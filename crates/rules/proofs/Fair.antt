@@ -18,7 +18,7 @@ use Rattle.rules.specs.declared.Registers.{Registers}
 
 -- a cell that a sound state may hold
 pub record FairCell (count : ℕ) (c : Cell) : Type 0 where
-  pub tag : c .tag ≤ 3
+  pub tag : c .tag ≤ PA
   pub pa : c .tag ≡ PA → c .bits ≤ count
 
 -- each cell of these tags and bits; past their end there is INT 0

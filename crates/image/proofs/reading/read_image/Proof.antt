@@ -10,7 +10,8 @@ use denote.Ref.{now}
 use lib.ListN.{length, take, drop, replicate, length-set}
 use Rattle.rules.specs.Sizes.{maxProgram}
 use Rattle.rules.specs.Fields.{bitsOf}
-use Rattle.rules.specs.Image.{bitsTaken, prepend, unpackFrom, unpacked}
+use Rattle.rules.specs.Image.{countWidth, bitsTaken, prepend, unpackFrom, unpacked}
+use Rattle.image.specs.Reach.{widest}
 use Rattle.rules.specs.declared.ImageRefusal.the-variants.{EndsEarly, CountTooHigh, BadPadding}
 use Rattle.rules.proofs.Fields.{bitsOf-length}
 use Rattle.rules.proofs.Unpacking.{unpacked-short, unpacked-count, unpacked-from, unfit-filed, prepend-none, turn-unfit, turn-place, turn-rest, end-unfit, end-filed}
@@ -19,7 +20,7 @@ use Rattle.image.proofs.reading.read_image.Tie as tie
 
 abbrev Inv-loop : tie.InvT-loop
 Inv-loop image table₀ count at₀ i₀ table at i =
-    (i ≤ count) × (count ≤ maxProgram) × (length table ≡ maxProgram) × (at ≤ 11 + 38 * i) × (at ≤ length image * 8)
+    (i ≤ count) × (count ≤ maxProgram) × (length table ≡ maxProgram) × (at ≤ countWidth + widest * i) × (at ≤ length image * 8)
     × (unpacked image ≡ prepend (take i table) (unpackFrom count (count - i) (drop at (bitsOf image))))
     × (drop i table ≡ replicate (maxProgram - i) 0)
 

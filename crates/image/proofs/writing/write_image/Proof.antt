@@ -9,7 +9,8 @@ use Rattle.rules.specs.Lists.{splice}
 use Rattle.rules.specs.Sizes.{imageSize}
 use Rattle.rules.specs.Fields.{bitsOf}
 use Rattle.rules.specs.Table.{program}
-use Rattle.rules.specs.Image.{instructionBits, imageBits, imageLength}
+use Rattle.rules.specs.Image.{countWidth, instructionBits, imageBits, imageLength}
+use Rattle.image.specs.Reach.{widest}
 use Rattle.rules.proofs.Fields.{bitsOf-length, field-length}
 use Rattle.rules.proofs.Bits.{packed-is}
 use Rattle.rules.proofs.Packing.{front, front-none, front-all, front-more, front-written}
@@ -18,7 +19,7 @@ use Rattle.image.proofs.writing.write_image.Tie as tie
 
 abbrev Inv-loop : tie.InvT-loop
 Inv-loop table count image₀ at₀ i₀ image at i =
-    (i ≤ count) × (at ≤ 11 + 38 * i) × (length image ≡ imageSize) × (at ≡ length (front table count i))
+    (i ≤ count) × (at ≤ countWidth + widest * i) × (length image ≡ imageSize) × (at ≡ length (front table count i))
     × (bitsOf image ≡ splice (bitsOf (replicate imageSize 0)) 0 (front table count i))
     × ((k : ℕ) → getD image k 0 < 2 ^ 8)
 

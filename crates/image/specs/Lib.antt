@@ -1,0 +1,2 @@
+-- What the inner contracts of `image` cite.
+pub mod Reach
