@@ -3,7 +3,7 @@
 use Prim.Native.Nat.{ℕ, _+_}
 use Rattle.rules.specs.Image.{codeWidth}
 
--- a field; an operand and a code; an instruction or the padding
+-- a field; an operand that is read, or an instruction that is written; an instruction that is read, or the padding
 abbrev pub fieldReach : ℕ
 fieldReach = 65_536
 
