@@ -1,2 +1,3 @@
 -- What the demands say.
 pub mod Series
+pub mod Refusals
