@@ -8,3 +8,7 @@ pub mod Demand3
 pub mod ListingRound
 pub mod Listing
 pub mod Image
+pub mod Lines
+pub mod TokenPlaces
+pub mod RefusalPlaces
+pub mod Refusals
