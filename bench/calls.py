@@ -12,6 +12,7 @@ MARK = 0xA5  # the byte that lent memory holds before a call
 PLACES = 1024
 TEXT_BYTES = 20480
 IMAGE_BYTES = 4866
+ASSEMBLE_TOLD = 4  # values that assemble tells: length, place, line, column
 
 
 def marked(count, width):
@@ -43,6 +44,7 @@ class Script:
         self.lines = []  # (line, the answer or None)
         self.numbers = Counter()  # of each call's answers
         self.calls = Counter()
+        self.fault_lines = Counter()  # (number, line) of assemble; 2 stands for every later line
 
     def say(self, line):
         self.lines.append((line, None))
@@ -55,10 +57,12 @@ class Script:
 
     # ---- bytes to a table
 
-    def assemble(self, source, places=PLACES, told_length=2):
+    def assemble(self, source, places=PLACES, told_length=ASSEMBLE_TOLD):
         table, told, number = marked(places, 8), marked(told_length, 8), 31
-        if told_length == 2:
+        if told_length == ASSEMBLE_TOLD:
             number, *told = sam.assemble(source, table)
+            _, _, line, _ = told
+            self.fault_lines[number, min(line, 2)] += 1
         self.call_reading("assemble", source, table, told, number)
         return number, table, told
 

@@ -3,7 +3,7 @@
 from itertools import product
 
 import sam
-from calls import IMAGE_BYTES, PLACES, TEXT_BYTES, LentMachine
+from calls import ASSEMBLE_TOLD, IMAGE_BYTES, PLACES, TEXT_BYTES, LentMachine
 from programs import FLOAT_EDGES, INTEGER_EDGES, TWO_FLOATS, TWO_INTEGERS
 from programs import any_integer, any_operand, any_pattern, any_program
 from sam.actions import FLOAT, INT, MA, PA
@@ -27,7 +27,7 @@ def text_case(chooser, script):
     """Assemble; where it is done, list and assemble again."""
     source = any_source(chooser)
     places = chooser.choice([PLACES] * 30 + [0, 1023, 1025])
-    told_length = chooser.choice([2] * 30 + [0, 1, 3])
+    told_length = chooser.choice([ASSEMBLE_TOLD] * 50 + [0, 1, 2, 3, 5])
     number, table, told = script.assemble(source, places, told_length)
     if number == 0:
         program = sam.Program(table, told[0])
@@ -45,7 +45,7 @@ def made_program(chooser):
     """The program of a random source that assembles."""
     while True:
         table = [0] * PLACES
-        number, length, _ = sam.assemble(any_program(chooser).encode(), table)
+        number, length, *_ = sam.assemble(any_program(chooser).encode(), table)
         if number == 0:
             return sam.Program(table, length)
 
@@ -283,7 +283,7 @@ def step_number(program, state):
 def single(instruction):
     """The program of this instruction alone."""
     table = [0] * PLACES
-    number, length, _ = sam.assemble((instruction + " STOP").encode(), table)
+    number, length, *_ = sam.assemble((instruction + " STOP").encode(), table)
     assert number == 0
     return sam.Program(table, length)
 

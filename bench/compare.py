@@ -3,8 +3,8 @@
 
     compare.py [--seed S] [--cases C] [--only FAMILY,..] [--console COMMAND] [--save FILE] DRIVER
 
-DRIVER and COMMAND are commands: a program, or an emulator and a program. Exit status 1 where anything differs or a
-number of document 01 was never given back.
+DRIVER and COMMAND are commands: a program, or an emulator and a program. Exit status 1 where anything differs, a
+number of the documents was never given back, or a fault of a source was never in a first line or never in a later one.
 """
 
 import argparse
@@ -17,9 +17,10 @@ from collections import Counter
 import sam
 from calls import Script
 from cases import CORNERS, FAMILIES
-from sources import any_source
+from sources import any_source, every_refusal
 
-ALL_NUMBERS = [*range(0, 12), *range(21, 32), *range(41, 46), 50]
+ALL_NUMBERS = [*range(0, 12), *range(21, 32), 33, *range(41, 46), 50]
+FAULTS = [*range(22, 31), 33]  # refusals of a source that have a line
 CUT = 400  # characters of a line that a difference shows
 
 
@@ -99,16 +100,27 @@ def compare_driver(command, script, path):
 def compare_console(command, seed, count):
     chooser = random.Random(seed)
     endings = Counter()
-    for _ in range(count):
-        source = any_source(chooser)
+    sources = [source.encode() for source in every_refusal()] + [any_source(chooser) for _ in range(count)]
+    for source in sources:
         expected = sam.console(source)
         answered = ask(command, source)[0].decode("latin-1")
         endings[expected.split(" ", 2)[0]] += 1
         if answered != expected:
             report("console", [repr(source)], expected, answered)
             return False
-    print(f"console: {count} sources alike, {endings['end']} run and {endings['refused']} refused")
+    print(f"console: {len(sources)} sources alike, {endings['end']} run and {endings['refused']} refused")
     return True
+
+
+def all_met(script):
+    """Whether the cases led to every number, and to every fault of a source in its first line and in a later one."""
+    missing = [number for number in ALL_NUMBERS if number not in script.numbers]
+    missing_lines = [(number, line) for number in FAULTS for line in (1, 2) if (number, line) not in script.fault_lines]
+    if missing:
+        print(f"MISSING: never given back: {missing}")
+    if missing_lines:
+        print(f"MISSING: faults never in the first line (1) or never in a later one (2): {missing_lines}")
+    return not missing and not missing_lines
 
 
 def print_summary(script, seed, cases):
@@ -133,10 +145,8 @@ def main():
     alike = compare_driver(words.driver, script, words.save)
     if alike:
         print_summary(script, words.seed, words.cases)
-    missing = [number for number in ALL_NUMBERS if number not in script.numbers]
-    if missing and set(families) == set(FAMILIES):
-        print(f"MISSING: never given back: {missing}")
-        alike = False
+    if set(families) == set(FAMILIES):
+        alike = all_met(script) and alike
     if words.console:
         alike = compare_console(words.console, words.seed, words.sources) and alike
     return 0 if alike else 1

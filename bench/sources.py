@@ -1,4 +1,6 @@
-"""Sources for the assembler: good, odd, damaged and as large as may be."""
+"""Sources for the assembler, most of several lines: good, odd, damaged and as large as may be."""
+
+from itertools import product
 
 from programs import any_program
 
@@ -12,28 +14,66 @@ ODD_TOKENS = ["FOO", "stop", "5", "-", "#", ":", "::", "_a", "a-b", "5:", "a::",
               "JUMP 12345678901", "JUMP #00000000", "JUMP missing", "JUMP a:", "JUMP " + "x" * 33, "x" * 33 + ":",
               "x" * 32 + ":", "JUMP", "STOP//", "ADD/STOP", "a:STOP", "a:b:", "PUSHIMM 5//5"]  # fmt: skip
 
+LINE_ENDS = ["\n", "\n", "\r\n", "\n\n", "\r\n \r\n", " // any @ bytes\n", "//\r\n", "\r\r\n"]
+SOURCE_ENDS = ["", "\n", "\r\n", "\n\n  ", " // no LF behind", "// an LF behind\n"]
+SIZE_LIMIT = 65536
+
+
+def joined(chooser, pieces, gaps):
+    """The pieces, one of the gaps behind each but the last; behind that an end with or without LF."""
+    inner = "".join(piece + chooser.choice(gaps) for piece in pieces[:-1])
+    return (inner + pieces[-1] + chooser.choice(SOURCE_ENDS)).encode("latin-1")
+
+
+def in_lines(chooser, lines):
+    """The lines, all with the same end or each with its own."""
+    return joined(chooser, lines, chooser.choice([["\n"], ["\r\n"], LINE_ENDS]))
+
+
+def good_source(chooser):
+    return in_lines(chooser, any_program(chooser).split("\n"))
+
+
+def faulty_source(chooser):
+    """A good program with something odd in its first line, at its end or anywhere."""
+    lines = any_program(chooser).split("\n")
+    at = chooser.choice([0, len(lines), chooser.randrange(len(lines) + 1)])
+    lines.insert(at, chooser.choice(["", "  ", "\t", "STOP "]) + chooser.choice(ODD_TOKENS))
+    return in_lines(chooser, lines)
+
+
+def cut_source(chooser):
+    """A good program that ends early, often where an operand is due; an operand may be lines below its name."""
+    words = any_program(chooser).split() or [""]
+    return joined(chooser, words[: chooser.randrange(1, len(words) + 1)], [" ", " ", *LINE_ENDS])
+
 
 def token_source(chooser):
     """Tokens side by side, most of them good."""
     odd = chooser.choice([0.0, 0.05, 0.3])
     bags = [ODD_TOKENS if chooser.random() < odd else GOOD_TOKENS for _ in range(chooser.randrange(1, 25))]
     words = [chooser.choice(bag) for bag in bags]
-    return chooser.choice([" ", "\n", "  ", " \r\n"]).join(words).encode("latin-1")
+    return joined(chooser, words, chooser.choice([[" "], ["\n"], [" \r\n"], [" ", "  ", *LINE_ENDS]]))
 
 
 def damaged_source(chooser):
     """A good source with a few bytes changed, put in or taken out."""
-    source = bytearray(any_program(chooser).encode())
+    source = bytearray(good_source(chooser))
     for _ in range(chooser.randrange(1, 4)):
         at = chooser.randrange(len(source) + 1)
-        byte = chooser.choice(list(b" \n:#-_/aZ09@\x00\xff") + [chooser.randrange(256)])
+        byte = chooser.choice(list(b" \n\r:#-_/aZ09@\x00\xff") + [chooser.randrange(256)])
         source[at : at + chooser.randrange(2)] = bytes([byte] * chooser.randrange(2))
     return bytes(source)
 
 
 def random_bytes_source(chooser):
-    letters = b"ADSTOPJUMPC \n:/#-_0123456789ab@"
-    return bytes(chooser.choice(letters) for _ in range(chooser.randrange(40)))
+    letters = b"ADSTOPJUMPC \n\n\r:/#-_0123456789ab@"
+    start = chooser.choice([b"", b"STOP\n", b"ADD // one\r\n\r\n"])
+    return start + bytes(chooser.choice(letters) for _ in range(chooser.randrange(40)))
+
+
+def many_labels(count, gap):
+    return "".join(f"l{i}:{gap}" for i in range(count))
 
 
 def full_sources():
@@ -43,14 +83,37 @@ def full_sources():
             yield "STOP\n" * count + tail
         yield "JUMP end " * count + "end:"
         yield "PUSHIMM -2147483648\n" * count
-    for count in (255, 256, 257):
-        labels = " ".join(f"l{i}:" for i in range(count))
-        for tail in ("", " l7:", " x:", " l7: x:", " " + "x" * 33 + ":"):
-            yield labels + tail
-    for count in (65535, 65536, 65537):
-        yield " " * count
-        yield "//" + "x" * (count - 2)
-        yield " " * (count - 4) + "STOP"
+    for count, gap in product((255, 256, 257), (" ", "\n", "\r\n")):
+        for tail in ("", "l7:", "x:", "l7: x:", "x" * 33 + ":"):
+            yield many_labels(count, gap) + tail
+    for count, filler in product((SIZE_LIMIT - 1, SIZE_LIMIT, SIZE_LIMIT + 1), (" ", "\n", "\r")):
+        yield filler * count
+        yield "//" + "x" * (count - 3) + filler
+        for token in ("STOP", "FOO", "PUSHIMM", "JUMP 9"):
+            yield filler * (count - len(token)) + token
+            yield token + filler * (count - len(token))
+
+
+def every_refusal():
+    """Each refusal of a source, 21 to 30 and 33, in a later line where it has one."""
+    yield "\n" * (SIZE_LIMIT + 1)
+    yield "STOP\r\n\tADD@"
+    yield "STOP\n\n FOO"
+    yield "STOP // one\nPUSHIMM\n"
+    yield "STOP\nADDSP 1000"
+    yield "a:\r\n a:"
+    yield "STOP\n JUMP missing\nSTOP\n"
+    yield "STOP\n" * 1025
+    yield many_labels(257, "\r\n")
+    yield "STOP\nJUMP\n" + "x" * 33
+    yield "STOP\nPUSHIMM\n ADD"
+
+
+def line_corners():
+    """Everything odd in the first line and in later ones, at the end and before more lines."""
+    starts = ("", "  ", "\n", "STOP\n", "STOP\r\n\t", "\r", "\r\n\r\n", "// any @ bytes\n ", "STOP//\r\nJUMP gone ")
+    for start, token, end in product(starts, ODD_TOKENS, [*SOURCE_ENDS, "\nSTOP", "\r\n\r\nJUMP 9\r\n"]):
+        yield start + token + end
 
 
 def corner_sources():
@@ -59,15 +122,21 @@ def corner_sources():
         for before in ("", "STOP ", "PUSHIMM ", "PUSHIMMF ", "ADDSP ", "JUMP ", "a:"):
             for after in ("", ":", " a:"):
                 yield before + token + after
+    yield from line_corners()
     yield from full_sources()
+    yield from every_refusal()
 
 
 def any_source(chooser):
-    kind = chooser.randrange(12)
+    kind = chooser.randrange(16)
     if kind < 4:
         return token_source(chooser)
+    if kind < 7:
+        return faulty_source(chooser)
     if kind < 8:
+        return cut_source(chooser)
+    if kind < 12:
         return damaged_source(chooser)
-    if kind < 9:
+    if kind < 13:
         return random_bytes_source(chooser)
-    return any_program(chooser).encode()
+    return good_source(chooser)

@@ -55,8 +55,8 @@ static double seconds(void) {
 }
 
 static void assemble(const struct work *work) {
-    uint64_t told[2];
-    if (sam_assemble((const uint8_t *)work->source, strlen(work->source), table, SAM_TABLE_PLACES, told, 2) != 0) {
+    uint64_t told[4];
+    if (sam_assemble((const uint8_t *)work->source, strlen(work->source), table, SAM_TABLE_PLACES, told, 4) != 0) {
         die("a source was refused");
     }
     length = told[0];

@@ -36,7 +36,7 @@ def take_steps(program, state, count):
 def complaint():
     """Cell 0 before the trial, after it, and after the technician's one step-back."""
     table = [0] * 1024
-    number, length, _ = sam.assemble(source_of("complaint"), table)
+    number, length, *_ = sam.assemble(source_of("complaint"), table)
     assert number == 0
     program = sam.Program(table, length)
     state = sam.State(bits=[0] * COMPLAINT_CELLS, tags=[0] * COMPLAINT_CELLS, history=[0] * COMPLAINT_PLACES)

@@ -1,7 +1,8 @@
 #!/usr/bin/env python3
-"""Tests of the interpreter in sam/: the twelve P examples of document 01, its sentences, and the settled readings.
+"""Tests of the interpreter in sam/: the twelve P examples of document 01, its sentences, request a, and the settled
+readings.
 
-Every expected value is read off document 01 or worked out by hand; none is copied from an output.
+Every expected value is read off the documents or worked out by hand; none is copied from an output.
 """
 
 import ctypes
@@ -17,14 +18,14 @@ PLACES = 1024
 
 
 def assembled(text):
-    """(number, length, place) and the table."""
+    """(number, length, place, line, column) and the table."""
     source = text if isinstance(text, bytes) else text.encode()
     table = [7] * PLACES
     return sam.assemble(source, table), table
 
 
 def program(text):
-    (number, length, _), table = assembled(text)
+    (number, length, *_), table = assembled(text)
     assert number == 0, (number, text)
     return sam.Program(table, length)
 
@@ -108,12 +109,13 @@ class PExamples(unittest.TestCase):
 
 
 class Text(unittest.TestCase):
-    def refused(self, text, number, place):
+    def refused(self, text, number, place, line, column):
         answer, table = assembled(text)
-        self.assertEqual(answer, (number, 0, place), text)
+        self.assertEqual(answer, (number, 0, place, line, column), text[-99:])
         self.assertFalse(any(table))
 
     def test_places(self):
+        """Sources with no LF before the place: line 1, and "a column counts bytes", from 1."""
         for text, number, place in [
             ("FOO@", 22, 3),
             ("STOP / STOP", 22, 5),
@@ -122,26 +124,33 @@ class Text(unittest.TestCase):
             ("5:$", 23, 0),
             ("a::", 23, 2),
             (":", 23, 0),
-            ("PUSHIMM :", 24, 8),
-            ("PUSHIMM 5:", 24, 8),
-            ("JUMP a: STOP", 24, 5),
+            ("PUSHIMM :", 33, 8),
+            ("PUSHIMM 5:", 33, 8),
+            ("PUSHIMM 00000000001:", 33, 8),  # 33 before 25
+            ("PUSHIMM @:", 22, 8),
+            ("PUSHIMM x@", 22, 9),  # 22 before 33
+            ("JUMP a: STOP", 33, 5),
             ("FOO", 23, 0),
             ("stop", 23, 0),
             ("STOP 5", 23, 5),
             ("_a:", 23, 0),
             ("a-b:", 23, 0),
             ("PUSHIMM", 24, 7),
-            ("PUSHIMM // 5\n", 24, 13),
-            ("PUSHIMM ADD", 24, 8),
-            ("PUSHIMM -", 24, 8),
-            ("PUSHIMM --1", 24, 8),
-            ("PUSHIMM #00000000", 24, 8),
-            ("PUSHIMMF 5", 24, 9),
-            ("PUSHIMMF #4020000", 24, 9),
-            ("PUSHIMMF #402000000", 24, 9),
-            ("PUSHIMMF #4020000G", 24, 9),
-            ("JUMP #00000000", 24, 5),
-            ("JUMP -", 24, 5),
+            ("PUSHIMM ", 24, 8),
+            ("PUSHIMM // 5", 24, 12),
+            ("PUSHIMM\r", 24, 8),
+            ("JUMP", 24, 4),
+            ("JUMP x PUSHIMM", 24, 14),  # 27 comes later still
+            ("PUSHIMM ADD", 33, 8),
+            ("PUSHIMM -", 33, 8),
+            ("PUSHIMM --1", 33, 8),
+            ("PUSHIMM #00000000", 33, 8),
+            ("PUSHIMMF 5", 33, 9),
+            ("PUSHIMMF #4020000", 33, 9),
+            ("PUSHIMMF #402000000", 33, 9),
+            ("PUSHIMMF #4020000G", 33, 9),
+            ("JUMP #00000000", 33, 5),
+            ("JUMP -", 33, 5),
             ("PUSHIMM 2147483648", 25, 8),
             ("PUSHIMM -2147483649", 25, 8),
             ("PUSHIMM 00000000001", 25, 8),
@@ -157,15 +166,49 @@ class Text(unittest.TestCase):
             ("JUMP ADD", 27, 5),
             ("x" * 33 + ":", 30, 0),
             ("JUMP " + "x" * 33, 30, 5),
+            ("JUMP " + "x" * 33 + ":", 33, 5),  # 33 before 30
             ("x" * 33, 23, 0),
             ("STOP " * 1025, 28, 5120),
             ("STOP " * 1024 + "PUSHIMM x", 28, 5120),
+            ("STOP " * 1024 + "PUSHIMM", 28, 5120),
             ("STOP " * 1024 + "FOO", 23, 5120),
             ("".join(f"a{i}:" for i in range(100, 356)) + "b:", 29, 256 * 5),
             ("".join(f"a{i}:" for i in range(100, 356)) + "a100:", 26, 256 * 5),
-            (" " * 65537, 21, 0),
+            ("STOP\rFOO", 23, 5),  # CR is a byte like any other
+            ("STOP FOO\n\n", 23, 5),
+            ("JUMP gone\nSTOP\nSTOP\n", 27, 5),  # found after the last token, told where it stands
+            ("JUMP 9\r\nSTOP\r\n", 25, 5),
+            (" " * 65533 + "FOO", 23, 65533),
         ]:
-            self.refused(text, number, place)
+            self.refused(text, number, place, 1, place + 1)
+
+    def test_lines(self):
+        for text, number, place, line, column in [
+            ("PUSHIMM\n", 24, 8, 2, 1),
+            ("PUSHIMM\r\n", 24, 9, 2, 1),
+            ("PUSHIMM // 5\n", 24, 13, 2, 1),
+            ("STOP\nPUSHIMM \n\n  ", 24, 17, 4, 3),
+            ("JUMP gone\nJUMP 9\nPUSHIMM\n", 24, 25, 4, 1),
+            ("PUSHIMM\nADD", 33, 8, 2, 1),
+            ("PUSHIMM\r\n\t5:", 33, 10, 2, 2),
+            ("STOP\nFOO", 23, 5, 2, 1),
+            ("STOP\r\n  FOO\r\n", 23, 8, 2, 3),
+            ("\n\n\tFOO", 23, 3, 3, 2),
+            ("// a @ comment\nFOO", 23, 15, 2, 1),
+            ("STOP // one\n// two\nSTOP @", 22, 24, 3, 6),
+            ("STOP//x\n@", 22, 8, 2, 1),
+            ("STOP\nab@c:", 22, 7, 2, 3),
+            ("PUSHIMM 1\nADDSP 1000\n", 25, 16, 2, 7),
+            ("STOP\nJUMP 9\nSTOP\n", 25, 10, 2, 6),
+            ("JUMP 0\nJUMP gone\nJUMP 9", 27, 12, 2, 6),
+            ("a:\r\nSTOP\r\na:\r\n", 26, 10, 3, 1),
+            ("STOP\n JUMP " + "x" * 33, 30, 11, 2, 7),
+            ("STOP\n" * 1025, 28, 5120, 1025, 1),
+            ("".join(f"a{i}:\n" for i in range(100, 356)) + " b:", 29, 256 * 6 + 1, 257, 2),
+            ("\n" * 65533 + "FOO", 23, 65533, 65534, 1),
+            ("\n" * 65537, 21, 0, 0, 0),
+        ]:
+            self.refused(text, number, place, line, column)
 
     def test_accepted(self):
         for text, length in [
@@ -180,10 +223,12 @@ class Text(unittest.TestCase):
             ("x" * 32 + ": JUMP " + "x" * 32, 1),
             (" " * 65536, 0),
             ("STOP\r\tSTOP", 2),
+            ("\n// two\r\nSTOP\r\n", 1),
+            ("PUSHIMM // the operand is below\n5", 1),
             ("ADDSP -0", 1),
         ]:
             answer, _ = assembled(text.encode("latin-1"))
-            self.assertEqual(answer, (0, length, 0), text)
+            self.assertEqual(answer, (0, length, 0, 0, 0), text)
 
     def test_labels_settle(self):
         made = program("JUMP end a: PUSHIMMPA a end:")
@@ -191,7 +236,7 @@ class Text(unittest.TestCase):
 
     def test_wrong_length(self):
         table = [7] * 1023
-        self.assertEqual(sam.assemble(b" " * 65537, table), (31, 0, 0))
+        self.assertEqual(sam.assemble(b" " * 65537, table), (31, 0, 0, 0, 0))
         self.assertEqual(table, [7] * 1023)
 
     def test_listing(self):
@@ -202,7 +247,7 @@ class Text(unittest.TestCase):
         self.assertEqual(text[:length], b"PUSHIMM -5\nPUSHIMMF #0000ABCD\nJUMP 0\nADDSP -2\nSTOP\n")
         self.assertFalse(any(text[length:]))
         again, table = assembled(bytes(text[:length]))
-        self.assertEqual((again, table), ((0, 5, 0), made.table))
+        self.assertEqual((again, table), ((0, 5, 0, 0, 0), made.table))
 
     def test_listing_refused(self):
         text = bytearray(b"?" * 20479)
@@ -504,7 +549,12 @@ class Console(unittest.TestCase):
             "end 50 steps 100000\nPC 5 SP 3 FBR 0\n0 FLOAT #C0200000\n1 MA -4\n2 PA 3\n",
         )
         self.assertEqual(sam.console(b""), "end 2 steps 0\nPC 0 SP 0 FBR 0\n")
-        self.assertEqual(sam.console(b"STOP FOO"), "refused 23 5\n")
+
+    def test_refused(self):
+        self.assertEqual(sam.console(b"STOP FOO"), "refused 23 5 1 6\n")
+        self.assertEqual(sam.console(b"STOP\r\nPUSHIMM\n"), "refused 24 14 3 1\n")
+        self.assertEqual(sam.console(b"STOP\nPUSHIMM\tADD\n"), "refused 33 13 2 9\n")
+        self.assertEqual(sam.console(b"\n" * 65537), "refused 21 0 0 0\n")
 
 
 if __name__ == "__main__":

@@ -7,18 +7,32 @@
 
 static unsigned checks, failed;
 
+/* On one line, also where the name is a source of several. */
+static void print_name(const char *name) {
+    for (; *name != '\0'; name++) {
+        if (*name == '\n') fputs("\\n", stdout);
+        else if (*name == '\r') fputs("\\r", stdout);
+        else putchar(*name);
+    }
+}
+
 static void check(const char *name, uint64_t expected, uint64_t answered) {
     bool right = expected == answered;
     checks++;
     failed += !right;
-    printf("%s %s: %llu", right ? "ok  " : "FAIL", name, (unsigned long long)answered);
+    fputs(right ? "ok   " : "FAIL ", stdout);
+    print_name(name);
+    printf(": %llu", (unsigned long long)answered);
     if (!right) printf(", should be %llu", (unsigned long long)expected);
     putchar('\n');
 }
 
 /* ---- a program and a machine to call with */
 
-static uint64_t table[SAM_TABLE_PLACES + 1], told[2];
+/* What assemble tells, and how many values that are. */
+enum { LENGTH, PLACE, LINE, COLUMN, ASSEMBLE_TOLD };
+
+static uint64_t table[SAM_TABLE_PLACES + 1], told[ASSEMBLE_TOLD + 1];
 static uint64_t length;
 static uint8_t text[SAM_TEXT_BYTES + 1], image[SAM_IMAGE_BYTES + 1];
 
@@ -28,9 +42,26 @@ static uint8_t tags[SAM_CELL_LIMIT + 1];
 static uint64_t history[SAM_HISTORY_LIMIT + 1];
 static size_t n, h;
 
+static void mark_told(void) {
+    for (size_t i = 0; i <= ASSEMBLE_TOLD; i++) told[i] = 77;
+}
+
+static void check_told_marked(size_t from) {
+    for (size_t i = from; i <= ASSEMBLE_TOLD; i++) check("  told unchanged", 77, told[i]);
+}
+
+static void check_told(uint64_t made, uint64_t place, uint64_t line, uint64_t column) {
+    check("  length", made, told[LENGTH]);
+    check("  place", place, told[PLACE]);
+    check("  line", line, told[LINE]);
+    check("  column", column, told[COLUMN]);
+    check_told_marked(ASSEMBLE_TOLD);
+}
+
 static uint32_t assemble_bytes(const char *source, size_t size) {
-    uint32_t number = sam_assemble((const uint8_t *)source, size, table, SAM_TABLE_PLACES, told, 2);
-    length = told[0];
+    mark_told();
+    uint32_t number = sam_assemble((const uint8_t *)source, size, table, SAM_TABLE_PLACES, told, ASSEMBLE_TOLD);
+    length = told[LENGTH];
     return number;
 }
 
@@ -97,17 +128,22 @@ static uint32_t run_with(size_t registers_len, size_t told_len) {
 }
 
 static void test_lengths(void) {
+    static const uint8_t too_long[SAM_SOURCE_LIMIT + 1];
     const uint8_t *stop = (const uint8_t *)"STOP";
     puts("told and registers of another length change nothing");
     begin("PUSHIMM 1 STOP", 4, 8);
-    told[0] = told[1] = 77;
-    check("  assemble", 31, sam_assemble(stop, 4, table, SAM_TABLE_PLACES, told, 1));
+    mark_told();
+    for (size_t told_len = 0; told_len <= ASSEMBLE_TOLD + 1; told_len++) {
+        if (told_len == ASSEMBLE_TOLD) continue;
+        check("  assemble", 31, sam_assemble(stop, 4, table, SAM_TABLE_PLACES, told, told_len));
+        check("  a refused source", 31, sam_assemble(stop, 3, table, SAM_TABLE_PLACES, told, told_len));
+        check("  65,537 bytes", 31, sam_assemble(too_long, sizeof too_long, table, SAM_TABLE_PLACES, told, told_len));
+    }
     check("  list", 31, sam_list(table, SAM_TABLE_PLACES, length, text, SAM_TEXT_BYTES, told, 0));
     check("  pack", 31, sam_pack(table, SAM_TABLE_PLACES, length, image, SAM_IMAGE_BYTES, told, 2));
     check("  unpack", 31, sam_unpack(stop, 4, table, SAM_TABLE_PLACES, told, 2));
     check("  run", 31, run_with(SAM_REGISTERS, 2));
-    check("  told[0]", 77, told[0]);
-    check("  told[1]", 77, told[1]);
+    check_told_marked(0);
     check("  table[0]", UINT64_C(1) << 32 | 1, table[0]);
     registers[SAM_N] = 3;
     check("  reset", 10, sam_reset(table, SAM_TABLE_PLACES, length, registers, 6, bits, n, tags, n, history, h));
@@ -210,12 +246,17 @@ static void test_broken(void) {
 
 /* ---- the assembler's refusals */
 
-static void refused(const char *source, uint32_t number, uint64_t place) {
+/* `name` is the source, or stands for one too large to be printed. */
+static void refused_as(const char *name, const char *source, uint32_t number, uint64_t place, uint64_t line,
+                       uint64_t column) {
     table[0] = 9;
-    check(source, number, assemble(source));
-    check("  length", 0, told[0]);
-    check("  place", place, told[1]);
+    check(name, number, assemble(source));
+    check_told(0, place, line, column);
     check("  table zeroed", 0, table[0]);
+}
+
+static void refused(const char *source, uint32_t number, uint64_t place, uint64_t line, uint64_t column) {
+    refused_as(source, source, number, place, line, column);
 }
 
 static char large[SAM_SOURCE_LIMIT + 2];
@@ -227,32 +268,66 @@ static const char *repeated(const char *piece, size_t count) {
     return large;
 }
 
-static const char *labels(unsigned count) {
+/* Labels of five bytes, with this gap behind each. */
+static const char *labels(unsigned count, const char *gap) {
     size_t at = 0;
-    for (unsigned i = 0; i < count; i++) at += (size_t)sprintf(large + at, "a%03u:", i);
+    for (unsigned i = 0; i < count; i++) at += (size_t)sprintf(large + at, "a%03u:%s", i, gap);
     return large;
 }
 
-static void test_refused_sources(void) {
-    puts("refused sources");
-    check("  table of 1,023 places", 31, sam_assemble((const uint8_t *)"STOP", 4, table, 1023, told, 2));
-    memset(large, ' ', sizeof large);
+static void test_without_line(void) {
+    puts("31, 21 and done: place 0, line 0, column 0");
+    mark_told();
+    check("  table of 1,023 places", 31, sam_assemble((const uint8_t *)"STOP", 4, table, 1023, told, ASSEMBLE_TOLD));
+    check_told(0, 0, 0, 0);
+    memset(large, '\n', sizeof large);
     check("  65,537 bytes", 21, assemble_bytes(large, SAM_SOURCE_LIMIT + 1));
+    check_told(0, 0, 0, 0);
     check("  65,536 bytes", 0, assemble_bytes(large, SAM_SOURCE_LIMIT));
-    refused("STOP FOO@", 22, 8);
-    refused("STOP FOO", 23, 5);
-    refused("PUSHIMM", 24, 7);
-    refused("JUMP a: STOP", 24, 5);
-    refused("PUSHIMM 2147483648", 25, 8);
-    refused("STOP JUMP 3", 25, 10);
-    refused("a: a:", 26, 3);
-    refused("JUMP ADD", 27, 5);
-    refused("xxxxxxxxxxxxxxxxxxxxxxxxxxxxxxxxx:", 30, 0);
+    check_told(0, 0, 0, 0);
+    check("  three lines", 0, assemble("// dwell\r\nPUSHIMM 40\r\nSTOP\r\n"));
+    check_told(2, 0, 0, 0);
+}
+
+static void test_refused_sources(void) {
+    puts("refused sources of one line");
+    refused("STOP FOO@", 22, 8, 1, 9);
+    refused("STOP FOO", 23, 5, 1, 6);
+    refused("PUSHIMM", 24, 7, 1, 8);
+    refused("JUMP a: STOP", 33, 5, 1, 6);
+    refused("PUSHIMM ADD", 33, 8, 1, 9);
+    refused("PUSHIMM 5:", 33, 8, 1, 9);
+    refused("PUSHIMM 2147483648", 25, 8, 1, 9);
+    refused("STOP JUMP 3", 25, 10, 1, 11);
+    refused("a: a:", 26, 3, 1, 4);
+    refused("JUMP ADD", 27, 5, 1, 6);
+    refused("xxxxxxxxxxxxxxxxxxxxxxxxxxxxxxxxx:", 30, 0, 1, 1);
     puts("1,025 instructions, then 257 labels");
-    check("  28", 28, assemble(repeated("STOP ", 1025)));
-    check("  place", 5120, told[1]);
-    check("  29", 29, assemble(labels(257)));
-    check("  place", 1280, told[1]);
+    refused_as("  28", repeated("STOP ", 1025), 28, 5120, 1, 5121);
+    refused_as("  29", labels(257, ""), 29, 1280, 1, 1281);
+}
+
+static void test_refused_lines(void) {
+    puts("refused sources of several lines");
+    refused("STOP FOO\nSTOP\n", 23, 5, 1, 6);
+    refused("STOP\rFOO\n", 23, 5, 1, 6);
+    refused("STOP\r\n\r\n\tFOO\r\n", 23, 9, 3, 2);
+    refused("// dwell @ 40\nPUSHIMM 40\n\n  STOP@\n", 22, 32, 4, 7);
+    refused("PUSHIMM\n", 24, 8, 2, 1);
+    refused("PUSHIMM 1 // one\r\nPUSHIMM\r\n", 24, 27, 3, 1);
+    refused("PUSHIMM 1\nPUSHIMM // 2", 24, 22, 2, 13);
+    refused("PUSHIMM\nADD\n", 33, 8, 2, 1);
+    refused("PUSHIMM 40\r\nPUSHIMMF #4020000G\r\n", 33, 21, 2, 10);
+    refused("STOP\nADDSP\t1000\n", 25, 11, 2, 7);
+    refused("a:\r\nSTOP\r\n a:\r\n", 26, 11, 3, 2);
+    refused("JUMP\nxxxxxxxxxxxxxxxxxxxxxxxxxxxxxxxxx\n", 30, 5, 2, 1);
+    puts("found after the last token");
+    refused("STOP\r\nJUMP gone\r\nSTOP\r\n", 27, 11, 2, 6);
+    refused("STOP\n\nJUMP 4\nSTOP", 25, 11, 3, 6);
+    refused("JUMP gone\nJUMP 9\nPUSHIMM\n", 24, 25, 4, 1);
+    puts("1,025 instructions, then 257 labels, one a line");
+    refused_as("  28", repeated("STOP\n", 1025), 28, 5120, 1025, 1);
+    refused_as("  29", labels(257, "\r\n"), 29, 1792, 257, 1);
 }
 
 /* ---- lists and images */
@@ -304,7 +379,9 @@ int main(void) {
     test_steps();
     test_reset();
     test_broken();
+    test_without_line();
     test_refused_sources();
+    test_refused_lines();
     test_list();
     test_images();
     printf("%u checks, %u failed\n", checks, failed);

@@ -1,4 +1,4 @@
-"""What the console program prints for a source: document 01, after "Small examples"."""
+"""What the console program prints for a source: document 01, after "Small examples", and request a of document 02."""
 
 from .actions import FLOAT
 from .machine import Program, State, reset, run
@@ -18,9 +18,9 @@ def cell_line(address, tag, bits):
 
 def console(source):
     table = [0] * PROGRAM_LIMIT
-    number, length, place = assemble(source, table)
-    if number:
-        return f"refused {number} {place}\n"
+    number, length, place, line, column = assemble(source, table)
+    if number:  # "The console's refused line gains line and column after the place."
+        return f"refused {number} {place} {line} {column}\n"
     program = Program(table, length)
     state = State(bits=[0] * CELLS, tags=[0] * CELLS, history=[])
     reset(program, state)

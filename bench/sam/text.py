@@ -1,4 +1,4 @@
-"""The assembler and the lister: document 01, "Text, table, image"."""
+"""The assembler and the lister: document 01, "Text, table, image", and request a of document 02."""
 
 import re
 from dataclasses import dataclass
@@ -94,9 +94,9 @@ def add_label(labels, token, address):
 
 
 def small_number(token, low, high):
-    """A number of low..high: 24 by its form, then 25, also for "more than 10 digits"."""
+    """A number of low..high: 33 by its form, then 25, also for "more than 10 digits"."""
     if not NUMBER_FORM.match(token.body):
-        token.refuse(24)
+        token.refuse(33)
     if len(token.body.lstrip(b"-")) > 10 or not low <= int(token.body) <= high:
         token.refuse(25)
     return int(token.body)
@@ -104,7 +104,7 @@ def small_number(token, low, high):
 
 def pattern(token):
     if not PATTERN_FORM.match(token.body):
-        token.refuse(24)
+        token.refuse(33)
     return int(token.body[1:], 16)
 
 
@@ -114,7 +114,7 @@ def target(token):
     if NUMBER_FORM.match(token.body):
         return Target(token)
     if not WORD_FORM.match(token.body):
-        token.refuse(24)
+        token.refuse(33)
     if len(token.body) > LABEL_SIZE_LIMIT:
         token.refuse(30)
     return Target(token)
@@ -124,10 +124,10 @@ def read_operand(kind, stream, source_length):
     if kind == NO_OPERAND:
         return 0
     token = next(stream, None)
-    if token is None:  # "an operand missing at the end is at the source length"
+    if token is None:  # "24 is now only "missing""; "an operand missing at the end is at the source length"
         raise Fault(24, source_length)
-    if token.colon:  # "A colon against an operand is 24"
-        token.refuse(24)
+    if token.colon:  # "A colon against an operand" is of wrong form
+        token.refuse(33)
     if kind == INTEGER:
         return small_number(token, -(2**31), 2**31 - 1)
     if kind == PATTERN:
@@ -169,20 +169,27 @@ def settle(operand, labels, length):
     return int(token.body)
 
 
+def line_and_column(source, place):
+    """ "both from 1; a column counts bytes since the last LF", or since the start where there is none."""
+    before = source[:place]
+    line_start = before.rfind(b"\n") + 1
+    return before.count(b"\n") + 1, place - line_start + 1
+
+
 def assemble(source, table):
-    """(number, length, place); the table is written, or zeroed where the source is refused."""
+    """(number, length, place, line, column); the table is written, or zeroed where the source is refused."""
     if len(table) != PROGRAM_LIMIT:
-        return 31, 0, 0
+        return 31, 0, 0, 0, 0
     table[:] = [0] * PROGRAM_LIMIT
     if len(source) > SOURCE_LIMIT:
-        return 21, 0, 0
+        return 21, 0, 0, 0, 0
     try:
         instructions, labels = read_program(source)
         places = [make_place(code, settle(operand, labels, len(instructions))) for code, operand in instructions]
     except Fault as fault:
-        return fault.number, 0, fault.place
+        return fault.number, 0, fault.place, *line_and_column(source, fault.place)
     table[: len(places)] = places
-    return 0, len(places), 0
+    return 0, len(places), 0, 0, 0
 
 
 def line_of(place):
