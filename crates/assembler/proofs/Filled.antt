@@ -7,25 +7,27 @@ use borrow.Author.Tests.{eq-eqb, ne-eqb, le-leb, lt-leb}
 use lib.ListN.{length, take, set, replicate, replicate-append-replicate}
 use lib.Seq.{length-take-le}
 use Rattle.rules.specs.Sizes.{maxSource, maxProgram}
-use Rattle.rules.specs.Assemble.{Outcome, refused, translated, assembly, assemble}
+use Rattle.rules.specs.Positions.{noPosition}
+use Rattle.rules.specs.Assemble.{Outcome, translated, assembly, noAssembly, assemble}
 use Rattle.rules.specs.declared.TextRefusal.the-variants.{SourceTooLong, WrongLength}
-use Rattle.rules.specs.declared.Assembled.{Assembled}
-use Rattle.rules.specs.declared.Assembled.the-variants.{Made, Fault}
-use Rattle.assembler.specs.Held.{OutcomeIs, usedBy}
+use Rattle.rules.specs.declared.Assembled.the-variants.{Fault}
+use Rattle.assembler.specs.Held.{OutcomeIs, usedBy, answerOf}
+use Rattle.assembler.specs.declared.held.Translation.{Translation}
+use Rattle.assembler.specs.declared.held.Translation.the-variants.{Done, Refused}
 use Rattle.assembler.proofs.Settle.{take-more}
 
 -- ---- the cases of the answer
 
 module _ (src table : List ℕ) where
-  pub answer-31 : (length table ≡ maxProgram → ⊥) → assemble src table ≡ record { answer = Fault WrongLength 0; table = table }
+  pub answer-31 : (length table ≡ maxProgram → ⊥) → assemble src table ≡ record { answer = Fault WrongLength noPosition; table = table }
   unfolding assemble
   answer-31 h = rw (ne-eqb (length table) maxProgram h)
 
-  pub answer-21 : length table ≡ maxProgram → maxSource < length src → assemble src table ≡ assembly (refused SourceTooLong 0)
+  pub answer-21 : length table ≡ maxProgram → maxSource < length src → assemble src table ≡ noAssembly SourceTooLong noPosition
   unfolding assemble
   answer-21 h k = rw (eq-eqb (length table) maxProgram h, lt-leb (length src) maxSource k)
 
-  pub answer-all : length table ≡ maxProgram → length src ≤ maxSource → assemble src table ≡ assembly (translated src)
+  pub answer-all : length table ≡ maxProgram → length src ≤ maxSource → assemble src table ≡ assembly src (translated src)
   unfolding assemble
   answer-all h k = rw (eq-eqb (length table) maxProgram h, le-leb (length src) maxSource k)
 
@@ -48,15 +50,15 @@ clear-more a t first i h k e =
     ∙ append-assoc (take first t) (replicate (i - first) 0) (0 ∷ [])
     ∙ ap (λ (l : List ℕ). take first t ++ l) (zeros-more (i - first)))
 
--- ---- what an answer keeps
+-- ---- what a translation keeps
 
-pub used-few : (t : List ℕ) (x : Outcome) (a : Assembled) → OutcomeIs t x a → usedBy a ≤ maxProgram
-used-few t x (Made n) h = h .0
-used-few t x (Fault k at) h = omega arith
+pub used-few : (t : List ℕ) (x : Outcome) (a : Translation) → OutcomeIs t x a → usedBy a ≤ maxProgram
+used-few t x (Done n) h = h .0
+used-few t x (Refused k at) h = omega arith
 
 -- the answer and the table of an outcome
-pub used-all : (t : List ℕ) (x : Outcome) (a : Assembled) → length t ≡ maxProgram → OutcomeIs t x a → (a ≡ assembly x .answer) × (take (usedBy a) t ++ replicate (maxProgram - usedBy a) 0 ≡ assembly x .table)
-used-all t x (Made n) l h =
+pub used-all : (src t : List ℕ) (x : Outcome) (a : Translation) → length t ≡ maxProgram → OutcomeIs t x a → (answerOf src a ≡ assembly src x .answer) × (take (usedBy a) t ++ replicate (maxProgram - usedBy a) 0 ≡ assembly src x .table)
+used-all src t x (Done n) l h =
     let q : length (take n t) ≡ n = length-take-le n t (omega (arith, h .0)) in
     (rw (h .1, q), rw (h .1, q))
-used-all t x (Fault k at) l h = (rw h, rw h)
+used-all src t x (Refused k at) l h = (rw h, rw h)

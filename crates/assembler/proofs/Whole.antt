@@ -6,7 +6,7 @@ use lib.ListN.{length}
 use Rattle.rules.specs.Tokens.{Token}
 use Rattle.rules.specs.Assemble.{instruction, operandFor, Progress, go, stop, judgeToken, refused, join, settle, finish, after, judge, translated}
 use Rattle.rules.specs.declared.TextRefusal.{TextRefusal}
-use Rattle.rules.specs.declared.TextRefusal.the-variants.{BadOperand}
+use Rattle.rules.specs.declared.TextRefusal.the-variants.{OperandMissing}
 use Rattle.tokens.specs.Next.{from}
 use Rattle.assembler.specs.Held.{itemsOf, labelsOf, awaitedOf, stateOf}
 use Rattle.rules.proofs.Judging.{judge-go, joinAll}
@@ -34,7 +34,7 @@ pub finish-all : (size : ℕ) (s : Progress) → s .awaited ≡ instruction → 
 unfolding finish
 finish-all size s h = rw h
 
-pub finish-missing : (size : ℕ) (s : Progress) (c : ℕ) → s .awaited ≡ operandFor c → finish size s ≡ refused BadOperand size
+pub finish-missing : (size : ℕ) (s : Progress) (c : ℕ) → s .awaited ≡ operandFor c → finish size s ≡ refused OperandMissing size
 unfolding finish
 finish-missing size s c h = rw h
 

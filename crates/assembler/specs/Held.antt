@@ -9,6 +9,7 @@ use lib.ListN.{length, take}
 use Rattle.rules.specs.Lists.{part}
 use Rattle.rules.specs.Sizes.{maxProgram, maxLabels}
 use Rattle.rules.specs.Instructions.{codes}
+use Rattle.rules.specs.Positions.{positionOf}
 use Rattle.rules.specs.Assemble.{Label, Found, nowhere, foundAt, Item, finished, numbered, beyond, labelled, Awaited, instruction, operandFor, Progress, Reading, item, bad, Judged, go, stop, Outcome, done, refused, join, settle, finish}
 use Rattle.rules.specs.declared.Kind.{Kind}
 use Rattle.rules.specs.declared.Kind.the-variants.{Bare, Immediate, Pattern, Offset, Target}
@@ -23,6 +24,8 @@ use Rattle.assembler.specs.declared.held.Verdict.{Verdict}
 use Rattle.assembler.specs.declared.held.Verdict.the-variants.{Go, Stop}
 use Rattle.assembler.specs.declared.held.Settled.{Settled}
 use Rattle.assembler.specs.declared.held.Settled.the-variants.{Full, No}
+use Rattle.assembler.specs.declared.held.Translation.{Translation}
+use Rattle.assembler.specs.declared.held.Translation.the-variants.{Done, Refused}
 
 -- ---- words
 
@@ -99,11 +102,15 @@ SettledIs src n ls w (Full v) = (is : List Item) → settle n ls (itemAt src w �
 SettledIs src n ls w (No e at) = (is : List Item) → settle n ls (itemAt src w ∷ is) ≡ refused e at
 
 -- what a source gave, with the table as it is then
-abbrev pub OutcomeIs : List ℕ → Outcome → Assembled → Type 0
-OutcomeIs table x (Made n) = (n ≤ maxProgram) × (x ≡ done (take n table))
-OutcomeIs table x (Fault e at) = x ≡ refused e at
+abbrev pub OutcomeIs : List ℕ → Outcome → Translation → Type 0
+OutcomeIs table x (Done n) = (n ≤ maxProgram) × (x ≡ done (take n table))
+OutcomeIs table x (Refused e at) = x ≡ refused e at
 
--- the places of the table that an answer keeps
-abbrev pub usedBy : Assembled → ℕ
-usedBy (Made n) = n
-usedBy (Fault e at) = 0
+-- the places of the table that it keeps, and the answer that it is
+abbrev pub usedBy : Translation → ℕ
+usedBy (Done n) = n
+usedBy (Refused e at) = 0
+
+abbrev pub answerOf : List ℕ → Translation → Assembled
+answerOf source (Done n) = Made n
+answerOf source (Refused e at) = Fault e (positionOf source at)

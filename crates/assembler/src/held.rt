@@ -35,3 +35,9 @@ pub(crate) enum Settled {
     Full(u64),
     No(TextRefusal, usize),
 }
+
+// A source translated: how many of the table's places hold the program, or the refusal and its place.
+pub(crate) enum Translation {
+    Done(usize),
+    Refused(TextRefusal, usize),
+}

@@ -37,6 +37,9 @@ pub(crate) const START_SPAN: u64 = 0x10_0000;
 
 pub(crate) const CODE_SPAN: u64 = 0x100;
 
+// An operand that is no number, bits or label where one is awaited.
+const WRONG_FORM: Got = Got::Bad(TextRefusal::OperandForm);
+
 // The highest number target that a program can be long enough for.
 const MAX_TARGET: u32 = sizes::MAX_PROGRAM as u32;
 
@@ -47,7 +50,7 @@ fn plain_word(code: usize, v: Numeral) -> Got
 {
     match v {
         Numeral::Value(x) => Got::Word((code as u64) * CODE_WEIGHT + (x as u64)),
-        Numeral::WrongForm => Got::Bad(TextRefusal::BadOperand),
+        Numeral::WrongForm => WRONG_FORM,
         Numeral::OutOfRange => Got::Bad(TextRefusal::OperandRange),
     }
 }
@@ -61,7 +64,7 @@ fn target_word(code: usize, at: usize, v: Numeral) -> Got
     let k = (code as u64) * CODE_WEIGHT;
     match v {
         Numeral::Value(x) => Got::Word(NUMBERED * KIND_WEIGHT + a + k + (x as u64)),
-        Numeral::WrongForm => Got::Bad(TextRefusal::BadOperand),
+        Numeral::WrongForm => WRONG_FORM,
         Numeral::OutOfRange => Got::Word(BEYOND * KIND_WEIGHT + a + k),
     }
 }
@@ -99,7 +102,7 @@ pub(crate) fn read_operand(src: &[u8], code: usize, start: usize, end: usize) ->
     let t = &src[start..end];
     let kind = program::kinds::kind_of(code);
     match kind {
-        Kind::Bare => Got::Bad(TextRefusal::BadOperand),
+        Kind::Bare => WRONG_FORM,
         Kind::Immediate => plain_word(code, operands::number_of(t, words::LOWEST, words::HIGHEST)),
         Kind::Pattern => plain_word(code, operands::pattern_of(t)),
         Kind::Offset => plain_word(

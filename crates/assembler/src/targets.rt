@@ -1,10 +1,10 @@
 // The second pass: each item becomes the table's place, in program order, until a target is at fault.
 use crate::held::Settled;
 use crate::held::Sought;
+use crate::held::Translation;
 use crate::operand;
 use crate::search;
 use program::table::CODE_WEIGHT;
-use rules::Assembled;
 use rules::TextRefusal;
 ghost use mathlib.Core.Path.{_≡_};
 ghost use Prim.Native.Nat.{_≤_};
@@ -48,7 +48,7 @@ pub(crate) fn settle_all(
     labels: &[u64],
     n: usize,
     m: usize,
-) -> Assembled
+) -> Translation
     requires { ⌜ (length (now table) ≡ maxProgram) × ((m ≤ length (now labels)) × (n ≤ maxProgram)) ⌝ }
     ensures { λ r. ⌜ OutcomeIs (now (table .exit)) (settle n (labelsOf (now (src .entry)) (now (labels .entry)) m) (itemsOf (now (src .entry)) (now (table .entry)) n)) r ⌝ }
 {
@@ -56,12 +56,12 @@ pub(crate) fn settle_all(
     while i < n {
         let settled = settle_item(src, labels, n, m, table[i]);
         match settled {
-            Settled::No(e, at) => return Assembled::Fault(e, at),
+            Settled::No(e, at) => return Translation::Refused(e, at),
             Settled::Full(w) => {
                 table[i] = w;
                 i += 1;
             }
         }
     }
-    Assembled::Made(n)
+    Translation::Done(n)
 }

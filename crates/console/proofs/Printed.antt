@@ -1,18 +1,17 @@
 -- What is printed: how long it can be, and what it is for each answer of the assembler. Assumes nothing.
 use Prim.Native.Nat.{ℕ, _-_, _≤_}
 use mathlib.Core.Path.{_≡_}
-use mathlib.Core.List.{List, [], _∷_, _++_}
+use mathlib.Core.List.{List, _++_}
 use native.Mathlib.Omega.{arith}
 use lib.ListN.{length, replicate, length-append}
-use Rattle.rules.specs.Lists.{text}
 use Rattle.rules.specs.Sizes.{maxProgram}
-use Rattle.rules.specs.Listing.{decimal}
 use Rattle.rules.specs.Numbers.{textNumber}
 use Rattle.rules.specs.Table.{program}
 use Rattle.rules.specs.Assemble.{assemble}
-use Rattle.rules.specs.Console.{line, report, consoleRun, printedFor, printed}
+use Rattle.rules.specs.Console.{report, consoleRun, refusedLine, printedFor, printed}
 use Rattle.rules.specs.declared.Assembled.{Assembled}
 use Rattle.rules.specs.declared.Assembled.the-variants.{Made, Fault}
+use Rattle.rules.specs.declared.Position.{Position}
 use Rattle.rules.specs.declared.TextRefusal.{TextRefusal}
 use Rattle.digits.specs.Put.{Put}
 use Rattle.digits.proofs.Laws.{put-zeros}
@@ -24,7 +23,7 @@ use Rattle.console.proofs.ConsoleRun.{console-sp}
 printed-for-short : (table : List ℕ) (a : Assembled) → length (printedFor table a) ≤ 32768
 unfolding printedFor
 printed-for-short table (Made n) = report-short (consoleRun (program table n)) (console-sp (program table n))
-printed-for-short table (Fault e at) = omega (arith, refused-short (textNumber e) at)
+printed-for-short table (Fault e p) = omega (arith, refused-short (textNumber e) p)
 
 pub printed-short : (source : List ℕ) → length (printed source) ≤ 32768
 unfolding printed
@@ -39,9 +38,9 @@ module _ (source table : List ℕ) (a : Assembled) (et : table ≡ assemble sour
   unfolding printed printedFor
   printed-made n e = rw (← ea, e, et)
 
-  pub printed-fault : (x : TextRefusal) (at : ℕ) → a ≡ Fault x at → printed source ≡ line (text "refused" ∷ decimal 9 (textNumber x) ∷ decimal 9 at ∷ [])
+  pub printed-fault : (x : TextRefusal) (p : Position) → a ≡ Fault x p → printed source ≡ refusedLine (textNumber x) p
   unfolding printed printedFor
-  printed-fault x at e = rw (← ea, e)
+  printed-fault x p e = rw (← ea, e)
 
 -- what is printed stands in front, and zeros after it
 pub shown : (source new t : List ℕ) (r : ℕ) → printed source ≡ t → Put (replicate 32768 0) new 0 t r

@@ -12,9 +12,10 @@ use Rattle.rules.specs.Listing.{decimal}
 use Rattle.rules.specs.Numbers.{numberOfEnding}
 use Rattle.rules.specs.State.{memory}
 use Rattle.rules.specs.Run.{Ran}
-use Rattle.rules.specs.Console.{line, cellLine, cellLines, report}
+use Rattle.rules.specs.Console.{line, cellLine, cellLines, report, refusedLine}
+use Rattle.rules.specs.declared.Position.{Position}
 use Rattle.rules.proofs.Texts.{length-decimal}
-use Rattle.console.proofs.Writing.{line-three, line-four, line-six, cell-short}
+use Rattle.console.proofs.Writing.{line-four, line-five, line-six, cell-short}
 
 -- ---- the live cells, one more at a time
 
@@ -57,10 +58,12 @@ registers-short p s f =
     rw (line-six (text "PC") (decimal 9 p) (text "SP") (decimal 9 s) (text "FBR") (decimal 9 f))
     (simp length-append (omega (arith, length-decimal 9 p, length-decimal 9 s, length-decimal 9 f)))
 
-pub refused-short : (n p : ℕ) → length (line (text "refused" ∷ decimal 9 n ∷ decimal 9 p ∷ [])) ≤ 30
+pub refused-short : (n : ℕ) (p : Position) → length (refusedLine n p) ≤ 52
 unfolding text
 refused-short n p =
-    rw (line-three (text "refused") (decimal 9 n) (decimal 9 p)) (simp length-append (omega (arith, length-decimal 9 n, length-decimal 9 p)))
+    rw (line-five (text "refused") (decimal 9 n) (decimal 9 (p .place)) (decimal 9 (p .line)) (decimal 9 (p .column)))
+    (simp length-append
+    (omega (arith, length-decimal 9 n, length-decimal 9 (p .place), length-decimal 9 (p .line), length-decimal 9 (p .column))))
 
 -- ---- the parts of a report, and its length
 

@@ -31,6 +31,11 @@ pub line-four : (w v u t : List ℕ) → line (w ∷ v ∷ u ∷ t ∷ []) ≡ (
 unfolding line
 line-four w v u t = simp append-assoc
 
+pub line-five : (w v u t s : List ℕ) → line (w ∷ v ∷ u ∷ t ∷ s ∷ [])
+    ≡ ((((w ++ space ∷ []) ++ (v ++ space ∷ [])) ++ (u ++ space ∷ [])) ++ (t ++ space ∷ [])) ++ (s ++ LF ∷ [])
+unfolding line
+line-five w v u t s = simp append-assoc
+
 pub line-six : (w v u t s r : List ℕ) → line (w ∷ v ∷ u ∷ t ∷ s ∷ r ∷ [])
     ≡ (((w ++ space ∷ []) ++ (v ++ space ∷ [])) ++ ((u ++ space ∷ []) ++ (t ++ space ∷ []))) ++ ((s ++ space ∷ []) ++ (r ++ LF ∷ []))
 unfolding line

@@ -25,8 +25,8 @@ pub fn print(source: &[u8], out: &mut [u8; OUTPUT_SIZE]) -> usize
     let made = assembler::assemble(source, &mut table);
     match made {
         Assembled::Made(length) => report::put_run(out, &table, length),
-        Assembled::Fault(refusal, place) => {
-            lines::put_refused(out, numbers::text_number(refusal) as usize, place)
+        Assembled::Fault(refusal, position) => {
+            lines::put_refused(out, numbers::text_number(refusal) as usize, position)
         }
     }
 }

@@ -3,22 +3,25 @@ use crate::values::put_value;
 use crate::words::put_named;
 use crate::words::put_number;
 use crate::words::put_tag;
+use rules::Position;
 ghost use mathlib.Core.List.{[], _∷_};
 ghost use Prim.Native.Nat.{_≤_};
 ghost use Rattle.rules.specs.Lists.{text};
 ghost use Rattle.rules.specs.Listing.{decimal};
-ghost use Rattle.rules.specs.Console.{line, cellLine};
+ghost use Rattle.rules.specs.Console.{line, cellLine, refusedLine};
 ghost use Rattle.digits.specs.Put.{Put};
 
 // Enough bytes for the line of a cell.
 const LINE_SIZE: usize = 64;
 
-// Writes "refused", a number and a place.
-pub(crate) fn put_refused(out: &mut [u8], number: usize, place: usize) -> usize
-    ensures { λ r. ⌜ Put (now (out .entry)) (now (out .exit)) 0 (line (text "refused" ∷ decimal 9 number ∷ decimal 9 place ∷ [])) r ⌝ }
+// Writes "refused", a number, and the place, the line and the column.
+pub(crate) fn put_refused(out: &mut [u8], number: usize, position: Position) -> usize
+    ensures { λ r. ⌜ Put (now (out .entry)) (now (out .exit)) 0 (refusedLine number position) r ⌝ }
 {
     let a = put_named(out, 0, b"refused", number, b' ');
-    a + put_number(out, a, place, b'\n')
+    let b = a + put_number(out, a, position.place, b' ');
+    let c = b + put_number(out, b, position.line, b' ');
+    c + put_number(out, c, position.column, b'\n')
 }
 
 // Writes the answer and the steps of a run.

@@ -17,10 +17,11 @@ struct Told {
 fn assemble(source: &[u8], table: &mut [u64]) -> Told {
     let answer = assembler::assemble(source, table);
     let number = numbers::assembled_number(answer);
+    let position = numbers::assembled_position(answer);
     if number != 0 {
         return Told {
             number,
-            value: numbers::assembled_place(answer),
+            value: position.place,
         };
     }
     Told {

@@ -5,11 +5,13 @@ use rules::Ending;
 use rules::ImageRefusal;
 use rules::Listed;
 use rules::MachineRefusal;
+use rules::NO_POSITION;
 use rules::Packed;
+use rules::Position;
 use rules::Step;
 use rules::TextRefusal;
 ghost use mathlib.Core.Path.{_≡_};
-ghost use Rattle.rules.specs.Numbers.{machineNumber, textNumber, imageNumber, numberOfReset, numberOfStep, numberOfEnding, numberOfAssembled, lengthOfAssembled, placeOfAssembled, numberOfListed, lengthOfListed, numberOfPacked, lengthOfPacked};
+ghost use Rattle.rules.specs.Numbers.{machineNumber, textNumber, imageNumber, numberOfReset, numberOfStep, numberOfEnding, numberOfAssembled, lengthOfAssembled, positionOfAssembled, numberOfListed, lengthOfListed, numberOfPacked, lengthOfPacked};
 
 // The number of a refusal of the machine: 1 to 11.
 pub fn machine_number(e: MachineRefusal) -> u32
@@ -30,7 +32,7 @@ pub fn machine_number(e: MachineRefusal) -> u32
     }
 }
 
-// The number of a refusal of the assembler or the lister: 10, and 21 to 31.
+// The number of a refusal of the assembler or the lister: 10, 21 to 31, and 33.
 pub fn text_number(e: TextRefusal) -> u32
     ensures { λ r. ⌜ r ≡ textNumber e ⌝ }
 {
@@ -39,7 +41,7 @@ pub fn text_number(e: TextRefusal) -> u32
         TextRefusal::SourceTooLong => 21,
         TextRefusal::ForbiddenByte => 22,
         TextRefusal::NoInstruction => 23,
-        TextRefusal::BadOperand => 24,
+        TextRefusal::OperandMissing => 24,
         TextRefusal::OperandRange => 25,
         TextRefusal::LabelTwice => 26,
         TextRefusal::LabelUnknown => 27,
@@ -47,6 +49,7 @@ pub fn text_number(e: TextRefusal) -> u32
         TextRefusal::TooManyLabels => 29,
         TextRefusal::LabelTooLong => 30,
         TextRefusal::WrongLength => 31,
+        TextRefusal::OperandForm => 33,
     }
 }
 
@@ -96,7 +99,7 @@ pub fn ending_number(ending: Ending) -> u32
     }
 }
 
-// The number, the length and the place of an assembler's answer.
+// The number, the length and the position of an assembler's answer.
 pub fn assembled_number(assembled: Assembled) -> u32
     ensures { λ r. ⌜ r ≡ numberOfAssembled assembled ⌝ }
 {
@@ -115,12 +118,12 @@ pub fn assembled_length(assembled: Assembled) -> usize
     }
 }
 
-pub fn assembled_place(assembled: Assembled) -> usize
-    ensures { λ r. ⌜ r ≡ placeOfAssembled assembled ⌝ }
+pub fn assembled_position(assembled: Assembled) -> Position
+    ensures { λ r. ⌜ r ≡ positionOfAssembled assembled ⌝ }
 {
     match assembled {
-        Assembled::Made(_) => 0,
-        Assembled::Fault(_, place) => place,
+        Assembled::Made(_) => NO_POSITION,
+        Assembled::Fault(_, position) => position,
     }
 }
 

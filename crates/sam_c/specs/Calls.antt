@@ -14,7 +14,8 @@ use Rattle.rules.specs.Reset.{Started, reset}
 use Rattle.rules.specs.Step.{Stepped, step}
 use Rattle.rules.specs.Back.{back}
 use Rattle.rules.specs.Run.{Ran, run}
-use Rattle.rules.specs.Numbers.{machineNumber, textNumber, numberOfAssembled, lengthOfAssembled, placeOfAssembled, numberOfListed, lengthOfListed, numberOfPacked, lengthOfPacked, numberOfReset, numberOfStep, registersAfter, numberOfEnding}
+use Rattle.rules.specs.Numbers.{machineNumber, textNumber, numberOfAssembled, lengthOfAssembled, positionOfAssembled, numberOfListed, lengthOfListed, numberOfPacked, lengthOfPacked, numberOfReset, numberOfStep, registersAfter, numberOfEnding}
+use Rattle.rules.specs.declared.Position.{Position}
 use Rattle.rules.specs.declared.Registers.{Registers}
 use Rattle.rules.specs.declared.MachineRefusal.the-variants.{Broken}
 use Rattle.rules.specs.declared.TextRefusal.the-variants.{WrongLength}
@@ -82,12 +83,16 @@ registersOf l =
 
 -- ---- the calls that fill an output
 
+-- a length, and the position of a refusal
+abbrev pub placed : ℕ → Position → List ℕ
+placed n p = n ∷ p .place ∷ p .line ∷ p .column ∷ []
+
 abbrev pub assembleFilled : Assembly → Filled
 assembleFilled a =
-    filled (numberOfAssembled (a .answer)) (lengthOfAssembled (a .answer) ∷ placeOfAssembled (a .answer) ∷ []) (a .table)
+    filled (numberOfAssembled (a .answer)) (placed (lengthOfAssembled (a .answer)) (positionOfAssembled (a .answer))) (a .table)
 
 abbrev pub assembleCall : List ℕ → List ℕ → List ℕ → Filled
-assembleCall source table told = ofLength 2 told (assembleFilled (assemble source table)) (filled notItsLength told table)
+assembleCall source table told = ofLength 4 told (assembleFilled (assemble source table)) (filled notItsLength told table)
 
 abbrev pub listFilled : Written → Filled
 listFilled w = filled (numberOfListed (w .answer)) (lengthOfListed (w .answer) ∷ []) (w .bytes)

@@ -1,7 +1,9 @@
 // What a call tells, written into the slice that is lent for it.
+use rules::Position;
 ghost use mathlib.Core.Path.{_≡_};
 ghost use mathlib.Core.List.{[], _∷_};
 ghost use lib.ListN.{length};
+ghost use Rattle.sam_c.specs.Calls.{placed};
 
 // "lent output not of its exact length", which what a call tells is lent too.
 pub(crate) const NOT_ITS_LENGTH: u32 = 31;
@@ -14,11 +16,13 @@ pub(crate) fn tell(told: &mut [u64], value: usize)
     told[0] = value as u64;
 }
 
-// Tells two values.
-pub(crate) fn tell_two(told: &mut [u64], first: usize, second: usize)
-    requires { ⌜ length (now told) ≡ 2 ⌝ }
-    ensures { λ _. ⌜ now (told .exit) ≡ first ∷ second ∷ [] ⌝ }
+// Tells the count of a program's instructions, and the position of a refusal.
+pub(crate) fn tell_placed(told: &mut [u64], count: usize, position: Position)
+    requires { ⌜ length (now told) ≡ 4 ⌝ }
+    ensures { λ _. ⌜ now (told .exit) ≡ placed count position ⌝ }
 {
-    told[0] = first as u64;
-    told[1] = second as u64;
+    told[0] = count as u64;
+    told[1] = position.place as u64;
+    told[2] = position.line as u64;
+    told[3] = position.column as u64;
 }

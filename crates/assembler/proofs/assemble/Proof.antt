@@ -43,20 +43,23 @@ clear-from-requires-2 c κs =
     let f = filled.used-few (g .last .1 .0) (translated (c .before .before .before .before .before .before .before .before .before .before .before .before .args .source .now)) (g .result) (g .ensures) in
     omega (arith, c .used .ensures, f, g .kept .1 .0, c .before .before .before .before .before .before .before .before .before .if1 .left)
 
+answer-requires : tie.Need-answer-requires
+answer-requires c κs = search needs
+
 same-length-2 : tie.Need-same-length-2
 same-length-2 c = search needs
 
 returns-3 : tie.Need-returns-3
 returns-3 c =
-    let a = c .before .before .before .before .before .before .before .before .before .before .before .before .before .before .before .args in
-    let g = c .before .before .before .before .before .before .before .before .assemble-with in
-    let k = c .before .before .before .before .before .before .before .before .before .before .before .before .if1 .left in
+    let a = c .before .before .before .before .before .before .before .before .before .before .before .before .before .before .before .before .args in
+    let g = c .before .before .before .before .before .before .before .before .before .assemble-with in
+    let k = c .before .before .before .before .before .before .before .before .before .before .before .before .before .if1 .left in
     let l : length (g .last .1 .0) ≡ maxProgram = g .kept .1 .0 ∙ k in
-    let h = filled.answer-all (a .source .now) (a .table .now) k (c .before .before .before .before .before .before .before .before .before .before .before .if2 .left) in
-    let u = filled.used-all (g .last .1 .0) (translated (a .source .now)) (g .result) l (g .ensures) in
-    let e = c .before .before .clear-from2 .ensures in (
-      u .0 ∙ sym (ap (λ (x : Assembly). x .answer) h),
-      (rw (l, c .before .before .before .used .ensures) at e) ∙ u .1 ∙ sym (ap (λ (x : Assembly). x .table) h),
+    let h = filled.answer-all (a .source .now) (a .table .now) k (c .before .before .before .before .before .before .before .before .before .before .before .before .if2 .left) in
+    let u = filled.used-all (a .source .now) (g .last .1 .0) (translated (a .source .now)) (g .result) l (g .ensures) in
+    let e = c .before .before .before .clear-from2 .ensures in (
+      c .answer .ensures ∙ u .0 ∙ sym (ap (λ (x : Assembly). x .answer) h),
+      (rw (l, c .before .before .before .before .used .ensures) at e) ∙ u .1 ∙ sym (ap (λ (x : Assembly). x .table) h),
     )
 
 pub assemble-spec : {M : Type 1} → statement M
@@ -71,5 +74,6 @@ assemble-spec =
     assemble-with-requires
     used-requires
     clear-from-requires-2
+    answer-requires
     same-length-2
     returns-3)

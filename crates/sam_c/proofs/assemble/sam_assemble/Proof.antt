@@ -1,16 +1,16 @@
--- `sam_assemble` meets its contract: what the assembler answers and leaves, with the length and the place told. Assumes nothing.
+-- `sam_assemble` meets its contract: what the assembler answers and leaves, with the length and the position told. Assumes nothing.
 use mathlib.Core.Path.{sym, _∙_}
-use mathlib.Core.List.{[], _∷_}
 use borrow.Author.Needs.{needs}
-use Rattle.rules.specs.Numbers.{numberOfAssembled, lengthOfAssembled, placeOfAssembled}
+use Rattle.rules.specs.Numbers.{numberOfAssembled, lengthOfAssembled, positionOfAssembled}
 use Rattle.rules.specs.declared.Assembled.{Assembled}
+use Rattle.sam_c.specs.Calls.{placed}
 use Rattle.sam_c.proofs.Lent.{of-another}
 use Rattle.sam_c.proofs.Called.{filled-by}
 use Rattle.sam_c.proofs.assemble.sam_assemble.Statement.{statement}
 use Rattle.sam_c.proofs.assemble.sam_assemble.Tie as tie
 
 returns : tie.Need-returns
-returns c = sym (of-another 2 (c .before .before .before .before .args .told .now) _ _ (c .if1 .taken))
+returns c = sym (of-another 4 (c .before .before .before .before .args .told .now) _ _ (c .if1 .taken))
 
 assemble-requires : tie.Need-assemble-requires
 assemble-requires c κs = search needs
@@ -18,11 +18,11 @@ assemble-requires c κs = search needs
 assembled-length-requires : tie.Need-assembled-length-requires
 assembled-length-requires c κs = search needs
 
-assembled-place-requires : tie.Need-assembled-place-requires
-assembled-place-requires c κs = search needs
+assembled-position-requires : tie.Need-assembled-position-requires
+assembled-position-requires c κs = search needs
 
-tell-two-requires : tie.Need-tell-two-requires
-tell-two-requires c κs = search needs
+tell-placed-requires : tie.Need-tell-placed-requires
+tell-placed-requires c κs = search needs
 
 assembled-number-requires : tie.Need-assembled-number-requires
 assembled-number-requires c κs = search needs
@@ -35,10 +35,10 @@ same-length-2 c = search needs
 
 returns-2 : tie.Need-returns-2
 returns-2 c =
-    filled-by numberOfAssembled (λ (a : Assembled). lengthOfAssembled a ∷ placeOfAssembled a ∷ []) 2 (c .before .before .before .before .before .before .before .before .before .before .before .before .before .before .before .args .told .now) (c .before .before .before .before .before .before .before .before .before .before .before .if1 .left) _
+    filled-by numberOfAssembled (λ (a : Assembled). placed (lengthOfAssembled a) (positionOfAssembled a)) 4 (c .before .before .before .before .before .before .before .before .before .before .before .before .before .before .before .args .told .now) (c .before .before .before .before .before .before .before .before .before .before .before .if1 .left) _
     (c .before .before .before .before .before .before .before .before .before .assemble .ensures .0)
     (c .before .before .before .before .before .before .before .before .before .assemble .ensures .1)
-    (c .before .before .before .tell-two .ensures ∙ (λ i. (c .before .before .before .before .before .before .assembled-length .ensures) i ∷ (c .before .before .before .before .assembled-place .ensures) i ∷ []))
+    (c .before .before .before .tell-placed .ensures ∙ (λ i. placed ((c .before .before .before .before .before .before .assembled-length .ensures) i) ((c .before .before .before .before .assembled-position .ensures) i)))
     (c .assembled-number .ensures)
 
 pub sam-assemble-spec : {M : Type 1} → statement M
@@ -48,8 +48,8 @@ sam-assemble-spec =
     returns
     assemble-requires
     assembled-length-requires
-    assembled-place-requires
-    tell-two-requires
+    assembled-position-requires
+    tell-placed-requires
     assembled-number-requires
     same-length
     same-length-2
