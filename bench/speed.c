@@ -55,8 +55,9 @@ static double seconds(void) {
 }
 
 static void assemble(const struct work *work) {
-    uint64_t told[4];
-    if (sam_assemble((const uint8_t *)work->source, strlen(work->source), table, SAM_TABLE_PLACES, told, 4) != 0) {
+    uint64_t told[SAM_ASSEMBLE_TOLD];
+    const uint8_t *source = (const uint8_t *)work->source;
+    if (sam_assemble(source, strlen(work->source), table, SAM_TABLE_PLACES, told, SAM_ASSEMBLE_TOLD) != 0) {
         die("a source was refused");
     }
     length = told[0];

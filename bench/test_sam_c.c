@@ -29,10 +29,7 @@ static void check(const char *name, uint64_t expected, uint64_t answered) {
 
 /* ---- a program and a machine to call with */
 
-/* What assemble tells, and how many values that are. */
-enum { LENGTH, PLACE, LINE, COLUMN, ASSEMBLE_TOLD };
-
-static uint64_t table[SAM_TABLE_PLACES + 1], told[ASSEMBLE_TOLD + 1];
+static uint64_t table[SAM_TABLE_PLACES + 1], told[SAM_ASSEMBLE_TOLD + 1];
 static uint64_t length;
 static uint8_t text[SAM_TEXT_BYTES + 1], image[SAM_IMAGE_BYTES + 1];
 
@@ -43,25 +40,25 @@ static uint64_t history[SAM_HISTORY_LIMIT + 1];
 static size_t n, h;
 
 static void mark_told(void) {
-    for (size_t i = 0; i <= ASSEMBLE_TOLD; i++) told[i] = 77;
+    for (size_t i = 0; i <= SAM_ASSEMBLE_TOLD; i++) told[i] = 77;
 }
 
 static void check_told_marked(size_t from) {
-    for (size_t i = from; i <= ASSEMBLE_TOLD; i++) check("  told unchanged", 77, told[i]);
+    for (size_t i = from; i <= SAM_ASSEMBLE_TOLD; i++) check("  told unchanged", 77, told[i]);
 }
 
 static void check_told(uint64_t made, uint64_t place, uint64_t line, uint64_t column) {
-    check("  length", made, told[LENGTH]);
-    check("  place", place, told[PLACE]);
-    check("  line", line, told[LINE]);
-    check("  column", column, told[COLUMN]);
-    check_told_marked(ASSEMBLE_TOLD);
+    check("  length", made, told[SAM_LENGTH]);
+    check("  place", place, told[SAM_PLACE]);
+    check("  line", line, told[SAM_LINE]);
+    check("  column", column, told[SAM_COLUMN]);
+    check_told_marked(SAM_ASSEMBLE_TOLD);
 }
 
 static uint32_t assemble_bytes(const char *source, size_t size) {
     mark_told();
-    uint32_t number = sam_assemble((const uint8_t *)source, size, table, SAM_TABLE_PLACES, told, ASSEMBLE_TOLD);
-    length = told[LENGTH];
+    uint32_t number = sam_assemble((const uint8_t *)source, size, table, SAM_TABLE_PLACES, told, SAM_ASSEMBLE_TOLD);
+    length = told[SAM_LENGTH];
     return number;
 }
 
@@ -133,8 +130,8 @@ static void test_lengths(void) {
     puts("told and registers of another length change nothing");
     begin("PUSHIMM 1 STOP", 4, 8);
     mark_told();
-    for (size_t told_len = 0; told_len <= ASSEMBLE_TOLD + 1; told_len++) {
-        if (told_len == ASSEMBLE_TOLD) continue;
+    for (size_t told_len = 0; told_len <= SAM_ASSEMBLE_TOLD + 1; told_len++) {
+        if (told_len == SAM_ASSEMBLE_TOLD) continue;
         check("  assemble", 31, sam_assemble(stop, 4, table, SAM_TABLE_PLACES, told, told_len));
         check("  a refused source", 31, sam_assemble(stop, 3, table, SAM_TABLE_PLACES, told, told_len));
         check("  65,537 bytes", 31, sam_assemble(too_long, sizeof too_long, table, SAM_TABLE_PLACES, told, told_len));
@@ -278,7 +275,8 @@ static const char *labels(unsigned count, const char *gap) {
 static void test_without_line(void) {
     puts("31, 21 and done: place 0, line 0, column 0");
     mark_told();
-    check("  table of 1,023 places", 31, sam_assemble((const uint8_t *)"STOP", 4, table, 1023, told, ASSEMBLE_TOLD));
+    const uint8_t *stop = (const uint8_t *)"STOP";
+    check("  table of 1,023 places", 31, sam_assemble(stop, 4, table, 1023, told, SAM_ASSEMBLE_TOLD));
     check_told(0, 0, 0, 0);
     memset(large, '\n', sizeof large);
     check("  65,537 bytes", 21, assemble_bytes(large, SAM_SOURCE_LIMIT + 1));

@@ -1,6 +1,6 @@
 /* The SaM machine for C: every call of the proved library, with numbers and lent memory only.
  *
- * Link target/staticlib/libsam_c.a. Every call gives a number of document 01:
+ * Link target/staticlib/libsam_c.a. Every call gives a number of document 01, or of request a (24, 33):
  *
  *    0  done, or a run found HALT 1
  *    1  step with HALT 1
@@ -17,9 +17,9 @@
  *   21  source too long                       26  label twice
  *   22  forbidden byte                        27  label unknown
  *   23  no instruction or label here          28  too many instructions
- *   24  operand missing or of wrong form      29  too many labels
+ *   24  operand missing, at the source's end  29  too many labels
  *   25  operand out of range                  30  label too long
- *   31  lent output not of its exact length
+ *   31  lent output not of its exact length   33  operand of wrong form
  *   41  image ends early                      44  operand out of range
  *   42  count above 1,024                     45  padding not zero or bytes left over
  *   43  code above 49
@@ -29,8 +29,8 @@
  * count is 0; memory lent to be written overlaps no other memory of the call.
  *
  * `told` is lent for what a call tells besides its number. A `told` of another length than the call's is 31 before
- * anything else and changes nothing. Where a call is refused, the values told are zero, save the place that assemble
- * tells and the steps that a run made before a step was refused.
+ * anything else and changes nothing. Where a call is refused, the values told are zero, save the place, the line and
+ * the column that assemble tells and the steps that a run made before a step was refused.
  */
 #ifndef SAM_H
 #define SAM_H
@@ -58,8 +58,12 @@ enum { SAM_N, SAM_H_PLACES, SAM_PC, SAM_SP, SAM_FBR, SAM_HALT, SAM_U, SAM_REGIST
 /* The tag of a cell. */
 enum { SAM_INT, SAM_FLOAT, SAM_MA, SAM_PA };
 
-/* Assembles a source into a table of 1,024 places. told[2]: the program's length, and the place of a refusal in the
- * source (0 where it is done). A refused source leaves a table of 1,024 places zero. */
+/* What assemble tells: the program's length; and where a refusal stands in the source, by its place, a count of bytes
+ * from 0, and by its line and column, both from 1. A line ends with LF; a column counts bytes, CR among them. */
+enum { SAM_LENGTH, SAM_PLACE, SAM_LINE, SAM_COLUMN, SAM_ASSEMBLE_TOLD };
+
+/* Assembles a source into a table of 1,024 places. told[4]: length, place, line, column; the last three are 0 where it
+ * is done, and with 31 and 21. A refused source leaves a table of 1,024 places zero. */
 uint32_t sam_assemble(const uint8_t *source, size_t source_len, uint64_t *table, size_t places, uint64_t *told,
                       size_t told_len);
 

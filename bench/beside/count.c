@@ -25,10 +25,12 @@ static size_t read_file(const char *path, uint8_t *source, size_t room) {
 int main(int count, char **words) {
     static uint8_t source[SAM_SOURCE_LIMIT], tags[CELLS];
     static uint32_t bits[CELLS];
-    static uint64_t table[SAM_TABLE_PLACES], registers[SAM_REGISTERS], history[1], told[4];
+    static uint64_t table[SAM_TABLE_PLACES], registers[SAM_REGISTERS], history[1], told[SAM_ASSEMBLE_TOLD];
     if (count != 5) die("count sam|plain FILE LIMIT ROUNDS");
     size_t size = read_file(words[2], source, sizeof source);
-    if (sam_assemble(source, size, table, SAM_TABLE_PLACES, told, 4) != 0) die("the source was refused");
+    if (sam_assemble(source, size, table, SAM_TABLE_PLACES, told, SAM_ASSEMBLE_TOLD) != 0) {
+        die("the source was refused");
+    }
     const uint64_t length = told[0], limit = strtoull(words[3], NULL, 10);
     run_call *run = strcmp(words[1], "sam") == 0 ? sam_run : plain_run;
     for (long rounds = strtol(words[4], NULL, 10); rounds > 0; rounds--) {

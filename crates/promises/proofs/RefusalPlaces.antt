@@ -22,9 +22,9 @@ use Rattle.rules.specs.declared.Numeral.{Numeral}
 use Rattle.rules.specs.declared.Numeral.the-variants.{Value, WrongForm, OutOfRange}
 use Rattle.rules.specs.declared.TextRefusal.{TextRefusal}
 use Rattle.rules.specs.declared.TextRefusal.the-variants.{ForbiddenByte, NoInstruction, OperandMissing, OperandRange, LabelTwice, LabelUnknown, TooManyInstructions, TooManyLabels, LabelTooLong, OperandForm}
-use Rattle.rules.proofs.Tests.{by-test, or-left, or-right}
+use Rattle.rules.proofs.Tests.{by-test, either, or-left, or-right}
 use Rattle.promises.specs.Refusals.{ofNoByte}
-use Rattle.promises.proofs.TokenPlaces.{Each, each-one-more, either, Between, Lie, tokens-lie}
+use Rattle.promises.proofs.TokenPlaces.{Each, each-one-more, Between, Lie, tokens-lie}
 
 -- ---- a refusal told at the right place of a source of that size
 

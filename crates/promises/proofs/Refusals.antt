@@ -15,9 +15,9 @@ use Rattle.rules.specs.declared.TextRefusal.{TextRefusal}
 use Rattle.rules.specs.declared.Position.{Position}
 use Rattle.rules.specs.declared.Assembled.{Assembled}
 use Rattle.rules.specs.declared.Assembled.the-variants.{Made, Fault}
+use Rattle.rules.proofs.Tests.{either}
 use Rattle.promises.specs.Refusals.{ofNoByte, Placed}
 use Rattle.promises.proofs.Lines.{same-byte}
-use Rattle.promises.proofs.TokenPlaces.{either}
 use Rattle.promises.proofs.RefusalPlaces.{Right, RightOutcome, translated-right}
 
 module _ (source : List ℕ) where

@@ -31,7 +31,7 @@ use Rattle.rules.specs.declared.Decision.{Decision}
 use Rattle.rules.specs.declared.Decision.the-variants.{Does, Refuses}
 use Rattle.rules.specs.declared.MachineRefusal.{MachineRefusal}
 use Rattle.rules.specs.declared.MachineRefusal.the-variants.{TooFewValues}
-use Rattle.rules.proofs.Tests.{and-left, and-right, every-at}
+use Rattle.rules.proofs.Tests.{either, and-left, and-right, every-at}
 use Rattle.rules.proofs.Table.{place-sound}
 use Rattle.rules.proofs.Fair.{FairCell, FairCells, Sound, Going, Fair}
 
@@ -269,10 +269,6 @@ summed count v vb vt h =
     go true q h = omega (arith, eqb-true (vb .tag) INT q)
     go false q h = omega (arith, eqb-true (vb .tag) MA h)
 
-cond-below : (b : Bool) (x y : ProgramAddress) (count : ℕ) → x .0 ≤ count → y .0 ≤ count → cond b x y .0 ≤ count
-cond-below true x y count hx hy = hx
-cond-below false x y count hx hy = hy
-
 -- ---- each action
 module _ (p : Program) (r : Registers) (m : Memory) (s : Sound p r m) (going : r .pc < p .count) (n : ℕ) (vb vt : Cell)
     (hb : FairCell (p .count) vb) (ht : FairCell (p .count) vt) where
@@ -348,7 +344,7 @@ module _ (p : Program) (r : Registers) (m : Memory) (s : Sound p r m) (going : r
       demands (leb 1 (r .sp)) _ _ (λ h. demands (has INT vt) _ _ (λ t.
       let to : ProgramAddress = cond (holds (vt .bits)) (programAddress n) (following r) in
       does (jumped r 1 to)
-      (fair-jumped p r m s going 1 to (cond-below (holds (vt .bits)) (programAddress n) (following r) (p .count) (aim refl) (omega arith)))))
+      (fair-jumped p r m s going 1 to (either (λ (a : ProgramAddress). a .0 ≤ p .count) (holds (vt .bits)) (aim refl) (omega arith)))))
   fair-values jumpInd aim =
       demands (leb 1 (r .sp)) _ _ (λ h. demands (has PA vt) _ _ (λ t.
       does (jumped r 1 (programAddress (vt .bits)))

@@ -1,7 +1,7 @@
 -- The laws of a search for a text: `same` byte by byte, and `codeNamed` name by name. Assumes nothing.
 use Prim.Native.Nat.{ℕ, suc, _+_, _≤_, _<_}
 use mathlib.Core.Path.{_≡_, refl, sym, ap, _∙_}
-use mathlib.Core.Bool.{Bool, true, false, cond, and-false}
+use mathlib.Core.Bool.{true, false, and-false}
 use mathlib.Core.List.{List, [], _∷_}
 use native.Mathlib.Numerals.{add-one}
 use native.Mathlib.Omega.{arith}
@@ -12,6 +12,7 @@ use borrow.Author.Tests.{eq-eqb, ne-eqb}
 use Rattle.rules.specs.Lists.{text, same}
 use Rattle.rules.specs.Instructions.{rows, codes, names, nameOf}
 use Rattle.rules.specs.Assemble.{placeIn, codeNamed}
+use Rattle.rules.proofs.Tests.{either}
 
 -- ---- two texts
 
@@ -65,11 +66,7 @@ named-end t = rw (drop-of-length-le names {i = codes} (rw length-names (omega ar
 place-most : (k : ℕ) (l : List (List ℕ)) (t : List ℕ) → placeIn k l t ≤ k + length l
 unfolding placeIn
 place-most k [] t = omega arith
-place-most k (n ∷ l) t = by-test (same n t) (omega arith) (omega (arith, place-most (k + 1) l t))
-  where
-    by-test : (b : Bool) → k ≤ k + suc (length l) → placeIn (k + 1) l t ≤ k + suc (length l) → cond b k (placeIn (k + 1) l t) ≤ k + suc (length l)
-    by-test true p q = p
-    by-test false p q = q
+place-most k (n ∷ l) t = either (λ (i : ℕ). i ≤ k + suc (length l)) (same n t) (omega arith) (omega (arith, place-most (k + 1) l t))
 
 pub named-most : (t : List ℕ) → codeNamed t ≤ codes
 unfolding codeNamed
