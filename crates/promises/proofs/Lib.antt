@@ -1,13 +1,14 @@
+-- The demands, shown.
 pub mod Unique
 pub mod Runs
 pub mod Demand3Trail
 pub mod Demand3Reset
 pub mod Demand3Kept
 pub mod Demand3
--- The demands, shown.
 pub mod ListingRound
 pub mod Listing
 pub mod Image
+-- Request a: place, line and column of a refusal.
 pub mod Lines
 pub mod TokenPlaces
 pub mod RefusalPlaces

@@ -1,3 +1,3 @@
--- What the demands say.
+-- What the demands say, and what a request promises besides.
 pub mod Series
 pub mod Refusals

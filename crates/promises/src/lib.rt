@@ -1,2 +1,2 @@
-// The demands as theorems over the definitions that the contracts cite. This crate has no function: its specs/ say what is demanded, its
-// proofs/ show it.
+// The demands, and what a request promises besides, as theorems over the definitions that the contracts cite. This crate has no function: its
+// specs/ say what is promised, its proofs/ show it.
