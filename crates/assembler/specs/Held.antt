@@ -1,9 +1,9 @@
 -- How the assembler holds what it has read: the table's first n places hold the items, the first m of the labels' places the labels, and
 -- `codes` in place of a code says that no operand is awaited. Assumes nothing.
-use Prim.Native.Nat.{ℕ, _+_, _^_, _/_, _%_, _≤_, _<_}
+use Prim.Native.Nat.{ℕ, _^_, _/_, _%_, _≤_, _<_}
 use mathlib.Core.Path.{_≡_}
 use mathlib.Core.Bool.{Bool, true, false, cond}
-use mathlib.Core.List.{List, [], _∷_, map}
+use mathlib.Core.List.{List, _∷_, map}
 use lib.Dec.{eqb, ltb}
 use lib.ListN.{length, take}
 use Rattle.rules.specs.Lists.{part}

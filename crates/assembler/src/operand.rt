@@ -8,7 +8,6 @@ use rules::Numeral;
 use rules::TextRefusal;
 use rules::sizes;
 use rules::words;
-ghost use mathlib.Core.Path.{_≡_};
 ghost use mathlib.Core.List.{List};
 ghost use Prim.Native.Nat.{ℕ, _+_, _≤_, _<_};
 ghost use lib.ListN.{length};

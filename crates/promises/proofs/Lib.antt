@@ -10,6 +10,7 @@ pub mod Listing
 pub mod Image
 -- Request a: place, line and column of a refusal.
 pub mod Lines
+pub mod Each
 pub mod TokenPlaces
 pub mod RefusalPlaces
 pub mod Refusals

@@ -1,17 +1,19 @@
 -- Request a: the line and the column of a place name the byte of that place. For every source and every place of it, the place behind its last byte
 -- among them: the lines that the source is cut into have that line, the line has that column, as many bytes stand before the two as before the
--- place, and the byte there is the same. Assumes nothing.
-use Prim.Native.Nat.{ℕ, zero, suc, _+_, _≤_, _<_}
-use mathlib.Core.Path.{_≡_, refl, sym, _∙_}
+-- place, and the byte there is the same (`same-byte`). No other line and column name that place (`one-position`). Assumes nothing.
+use Prim.Native.Nat.{ℕ, zero, suc, _+_, _-_, _≤_, _<_}
+use mathlib.Core.Path.{_≡_, refl, sym, ap, _∙_}
 use mathlib.Core.Bool.{Bool, true, false}
 use mathlib.Core.List.{List, [], _∷_}
 use native.Mathlib.Nat.{not-suc-le-zero, le-of-suc-le-suc, add-sub-cancel}
 use native.Mathlib.Omega.{arith}
-use lib.Dec.{eqb}
+use lib.Dec.{eqb, ltb}
 use lib.ListN.{length, take, getD}
-use borrow.Author.Tests.{eqb-true, eq-eqb, ne-eqb}
+use borrow.Author.Tests.{eqb-true, ltb-true, ltb-false}
 use Rattle.rules.specs.Bytes.{LF}
 use Rattle.rules.specs.Positions.{lineFeeds, sinceLF, positionOf}
+use Rattle.rules.specs.declared.Position.{Position}
+use Rattle.rules.proofs.Positions.{feeds-LF, feeds-other, since-none, since-some}
 use Rattle.rules.proofs.Tests.{by-test}
 use Rattle.promises.specs.Refusals.{before, lines, bytesOf, SameByte}
 
@@ -55,7 +57,7 @@ module _ (n x column : ℕ) where
   in-later b line (l ∷ ls) w =
       record { has-line = omega (arith, w .has-line); has-column = w .has-column; arrives = omega (arith, w .arrives); byte = w .byte }
 
--- ---- a byte in front of a source, and of what stands before a place
+-- ---- a byte in front of a source
 
 lines-LF : (b : ℕ) (s : List ℕ) → eqb b LF ≡ true → lines (b ∷ s) ≡ [] ∷ lines s
 unfolding lines
@@ -64,25 +66,6 @@ lines-LF b s e = rw e
 lines-other : (b : ℕ) (s : List ℕ) → eqb b LF ≡ false → lines (b ∷ s) ≡ before b (lines s)
 unfolding lines
 lines-other b s e = rw e
-
-feeds-LF : (b : ℕ) (t : List ℕ) → eqb b LF ≡ true → lineFeeds (b ∷ t) ≡ suc (lineFeeds t)
-unfolding lineFeeds
-feeds-LF b t e = rw e
-
-feeds-other : (b : ℕ) (t : List ℕ) → eqb b LF ≡ false → lineFeeds (b ∷ t) ≡ lineFeeds t
-unfolding lineFeeds
-feeds-other b t e = rw e
-
--- no LF: all of it stands behind the last
-since-none : (t : List ℕ) → lineFeeds t ≡ 0 → sinceLF t ≡ t
-unfolding sinceLF
-since-none [] e = refl
-since-none (b ∷ t) e = rw (eq-eqb (lineFeeds (b ∷ t)) 0 e)
-
--- a LF at b or behind it: b does not stand behind the last
-since-some : (b : ℕ) (t : List ℕ) (k : ℕ) → lineFeeds (b ∷ t) ≡ suc k → sinceLF (b ∷ t) ≡ sinceLF t
-unfolding sinceLF
-since-some b t k e = rw (ne-eqb (lineFeeds (b ∷ t)) 0 (λ z. omega (arith, e, z)))
 
 -- ---- every place of a source
 
@@ -129,3 +112,44 @@ same-byte source at h =
       arrives = simp add-sub-cancel (w .arrives);
       byte = simp add-sub-cancel (w .byte);
     }
+
+-- ---- no other line and column name it
+
+-- a line takes its bytes and its LF
+bytes-next : (ls : List (List ℕ)) (k : ℕ) → k < length ls → bytesOf (take (suc k) ls) ≡ bytesOf (take k ls) + length (getD ls k []) + 1
+unfolding bytesOf
+bytes-next [] k h = absurd (not-suc-le-zero h)
+bytes-next (l ∷ ls) zero h = omega arith
+bytes-next (l ∷ ls) (suc k) h = omega (arith, bytes-next ls k (le-of-suc-le-suc h))
+
+-- a line further down begins no earlier
+bytes-down : (ls : List (List ℕ)) (j k : ℕ) → j ≤ k → bytesOf (take j ls) ≤ bytesOf (take k ls)
+unfolding bytesOf
+bytes-down ls zero k h = omega arith
+bytes-down [] (suc j) k h = omega arith
+bytes-down (l ∷ ls) (suc j) zero h = absurd (not-suc-le-zero h)
+bytes-down (l ∷ ls) (suc j) (suc k) h = omega (arith, bytes-down ls j k (le-of-suc-le-suc h))
+
+module _ (source : List ℕ) where
+  -- what stands in a line stands before the next
+  not-above : (p q : Position) → SameByte source p → SameByte source q → p .place ≡ q .place → p .line < q .line → ⊥
+  not-above p q v w e h =
+      let ls = lines source in
+      let k = p .line - 1 in
+      let next = bytes-next ls k (omega (arith, v .line-from, v .line-to)) in
+      let down = bytes-down ls (suc k) (q .line - 1) (omega (arith, v .line-from, h)) in
+      omega (arith, v .column-from, v .column-to, v .arrives, w .arrives, e, next, down)
+
+  pub one-position : (p q : Position) → SameByte source p → SameByte source q → p .place ≡ q .place → p ≡ q
+  one-position p q v w e =
+      let line : p .line ≡ q .line =
+      by-test (ltb (p .line) (q .line))
+      (λ t. absurd (not-above p q v w e (ltb-true (p .line) (q .line) t)))
+      (λ f.
+      by-test (ltb (q .line) (p .line))
+      (λ t. absurd (not-above q p w v (sym e) (ltb-true (q .line) (p .line) t)))
+      (λ g. omega (arith, ltb-false (p .line) (q .line) f, ltb-false (q .line) (p .line) g))) in
+      let above = ap (λ (k : ℕ). bytesOf (take (k - 1) (lines source))) line in
+      let column : p .column ≡ q .column =
+      omega (arith, v .column-from, w .column-from, v .arrives, w .arrives, e, above) in
+      λ i. record { place = e i; line = line i; column = column i }

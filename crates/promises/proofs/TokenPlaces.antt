@@ -1,26 +1,14 @@
 -- The tokens of a source lie in it: each has a byte, and none reaches behind the source's last byte. Assumes nothing.
 use Prim.Native.Nat.{ℕ, _+_, _≤_, _<_}
 use mathlib.Core.Path.{_≡_}
-use mathlib.Core.List.{List, [], _∷_, _++_}
+use mathlib.Core.List.{List, [], _∷_}
 use native.Mathlib.Omega.{arith}
 use lib.Dec.{eqb}
 use lib.ListN.{length}
 use Rattle.rules.specs.Bytes.{LF, blank}
 use Rattle.rules.specs.Tokens.{Token, opens, last, extend, tokens, comment}
 use Rattle.rules.proofs.Tests.{either}
-
--- ---- lists
-
--- each of a list
-abbrev pub Each : {A : Type 0} → (A → Type 0) → List A → Type 0
-Each P [] = Unit {0}
-Each P (x ∷ xs) = P x × Each P xs
-
-pub each-one-more : {A : Type 0} (P : A → Type 0) (xs : List A) (x : A) → Each P xs → P x → Each P (xs ++ x ∷ [])
-each-one-more P [] x h k = (k, tt)
-each-one-more P (y ∷ xs) x h k = (h .0, each-one-more P xs x (h .1) k)
-
--- ---- tokens
+use Rattle.promises.proofs.Each.{Each}
 
 -- a token has a byte, and its bytes lie from low on and below high
 pub record Between (low high : ℕ) (t : Token) : Type 0 where
