@@ -19,7 +19,7 @@ use Rattle.rules.specs.Floats.{rounded, plusF, minusF, timesF, quotientF
 use Rattle.rules.specs.Instructions.{Action, stop, pushInt, pushFloat, pushPa, dup, swap, sums, ints, divides, floats, compareFloats, one, equal, isNil, pushSp, popSp, pushFbr, popFbr, link, addSp, pushInd, storeInd, pushOff, storeOff, jump, jumpC, jumpInd, jsr, jsrInd, Row, rows, rowOf, actionOf}
 use Rattle.rules.specs.Table.{Program, codeOf, operandOf}
 use Rattle.rules.specs.State.{Memory, cellAt, sound}
-use Rattle.rules.specs.Decide.{inside, memoryAddress, programAddress, result, swapped, stored, moved, framed, linked, jumped, called, halted, agree, addSpTo, frame, onValues, decide}
+use Rattle.rules.specs.Decide.{inside, memoryAddress, programAddress, result, swapped, stored, moved, framed, linked, jumped, called, halted, agree, nil, addSpTo, frame, onValues, decide}
 use Rattle.rules.specs.Commit.{block, memoryOf}
 use Rattle.rules.specs.Step.{decideAt, judged}
 use Rattle.rules.specs.declared.Cell.{Cell}
@@ -238,7 +238,7 @@ module _ (r : Registers) (m : Memory) (sp : r .sp < 2 ^ 32) (fbr : r .fbr < 2 ^ 
       demands (not (unordered (vb .bits) (vt .bits))) _ _ (λ z. pushes 2 _ (orderedF-lt (vb .bits) (vt .bits) hb ht))))
   slim-values (one f) k = demands (leb 1 (r .sp)) _ _ (λ h. demands (has INT vt) _ _ (λ t. pushes 1 _ (k (vt .bits) ht)))
   slim-values equal k = demands (leb 2 (r .sp)) _ _ (λ h. pushes 2 _ (bit-lt (agree vb vt)))
-  slim-values isNil k = demands (leb 1 (r .sp)) _ _ (λ h. pushes 1 _ (bit-lt (eqb (vt .bits) 0)))
+  slim-values isNil k = demands (leb 1 (r .sp)) _ _ (λ h. pushes 1 _ (bit-lt (nil vt)))
   slim-values pushSp k = pushes 0 (ma (r .sp)) sp
   slim-values popSp k =
       demands (leb 1 (r .sp)) _ _ (λ h. demands (has MA vt) _ _ (λ t. demands (inside (signed (vt .bits)) (r .n)) _ _ (λ i.
