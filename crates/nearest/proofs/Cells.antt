@@ -2,21 +2,22 @@
 -- two cells, each finite, to the bits that the operation leaves: they are those of the binary32 value nearest to the exact result, and no other bits are.
 -- An exact value is a whole number over a whole number above 0: exact b / scale with its sign, magnitude b / scale without. Assumes nothing.
 use mathlib.Core.Path.{_≡_, sym, ap, ap₂, _∙_, subst}
-use mathlib.Core.Bool.{Bool, not, _&&_, xor}
+use mathlib.Core.Logic.{_↔_}
+use mathlib.Core.Bool.{Bool, true, not, _&&_, xor}
 use Prim.Native.Nat.{ℕ, _*_, _<_}
 use native.Mathlib.Nat.{mul-pos}
 use lib.IntN.{natAbs, _+ℤ_, _-ℤ_}
 use lib.Pow.{pow-pos}
 use lib.Signed.{ltZ}
 use lib.Ieee.{Float, binary32, round, ofBits, toBits}
-use Rattle.rules.specs.Floats.{rounded, plusF, minusF, timesF, quotientF, orderedF}
+use Rattle.rules.specs.Floats.{rounded, plusF, minusF, timesF, quotientF, orderedF, equalF}
 use Rattle.rules.specs.Words.{sense}
 use Rattle.nearest.specs.Nearest.{negative, Finite, scale, magnitude, exact, signOr, infinity, Rounded, RoundedSigned}
 use Rattle.nearest.proofs.Cell.{value-read}
 use Rattle.nearest.proofs.Nearest.{infinity-bits}
 use Rattle.nearest.proofs.Unique.{round-rounded}
 use Rattle.nearest.proofs.Exact.{add-exact, sub-exact, mul-exact, div-exact, div-zero, zero-div-zero}
-use Rattle.nearest.proofs.Compare.{lt-exact}
+use Rattle.nearest.proofs.Compare.{lt-exact, eq-exact}
 
 by-round : (x : Float) (s : Bool) (a c : ℕ) → 0 < c → x ≡ round binary32 s a c → Rounded s a c (toBits binary32 x)
 by-round x s a c C e = subst (λ (y : Float). Rounded s a c (toBits binary32 y)) (sym e) (round-rounded s a c C)
@@ -77,3 +78,10 @@ module _ (b t : ℕ) (fb : Finite b) (ft : Finite t) where
       (value-read b fb) (value-read t ft))
       (lt-exact (negative t) (negative b) (magnitude t) (magnitude b) scale (pow-pos 149) (ofBits binary32 t) (ofBits binary32 b)
       (value-read t ft) (value-read b fb))
+
+  -- EQUAL of two FLOATs (02 b): 1 exactly where the exact values are one whole number over the scale; both zeros are 0.
+  pub equal-exact : (equalF b t ≡ true) ↔ (exact b ≡ exact t)
+  unfolding equalF
+  equal-exact =
+      eq-exact (negative b) (negative t) (magnitude b) (magnitude t) scale (pow-pos 149) (ofBits binary32 b) (ofBits binary32 t)
+      (value-read b fb) (value-read t ft)

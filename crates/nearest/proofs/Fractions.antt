@@ -1,10 +1,11 @@
--- Fractions brought over one number, by cross products: sums, differences, quotients and order. Assumes nothing.
+-- Fractions brought over one number, by cross products: sums, differences, quotients, order and equality. Assumes nothing.
 use mathlib.Core.Path.{_≡_, sym, ap, ap₂, _∙_, subst}
 use mathlib.Core.Logic.{_⊎_, inl, inr}
 use Prim.Native.Nat.{ℕ, _+_, _-_, _*_, _≤_, _<_}
 use native.Mathlib.Nat.{lt-irrefl, eq-zero-or-pos, zero-mul, mul-assoc, mul-comm, mul-right-comm, mul-pos, add-mul, mul-sub, mul-left-comm, eq-of-mul-eq-mul-right, mul-le-mul-right, mul-lt-mul-of-pos-right, lt-of-mul-lt-mul-right, le-of-mul-le-mul-right}
-use lib.Dec.{ltb}
-use borrow.Author.Tests.{lt-ltb, le-ltb}
+use lib.Dec.{ltb, eqb}
+use borrow.Author.Tests.{lt-ltb, le-ltb, eq-eqb, ne-eqb, eqb-true, eqb-false}
+use Rattle.rules.proofs.Tests.{by-test}
 use Rattle.nearest.proofs.Order.{either-way}
 
 sub-mul : (x y k : ℕ) → (x - y) * k ≡ x * k - y * k
@@ -22,6 +23,12 @@ module _ (m n c M N l : ℕ) (C : 0 < c) (L : 0 < l) (p : m * l ≡ M * c) (q : 
       go (inr h) =
           lt-ltb m n h
           ∙ sym (lt-ltb M N (lt-of-mul-lt-mul-right c (subst (λ (x : ℕ). x < N * c) p (subst (λ (x : ℕ). m * l < x) q (mul-lt-mul-of-pos-right h L)))))
+
+  pub same-equal : eqb m n ≡ eqb M N
+  same-equal =
+      by-test (eqb m n)
+      (λ e. e ∙ sym (eq-eqb M N (eq-of-mul-eq-mul-right c C M N (sym p ∙ ap (λ (x : ℕ). x * l) (eqb-true m n e) ∙ q))))
+      (λ e. e ∙ sym (ne-eqb M N (λ h. eqb-false m n e (eq-of-mul-eq-mul-right l L m n (p ∙ ap (λ (x : ℕ). x * c) h ∙ sym q)))))
 
   pub same-sum : (m + n) * l ≡ (M + N) * c
   same-sum = add-mul m n l ∙ ap₂ (λ x y. x + y) p q ∙ sym (add-mul M N c)

@@ -12,4 +12,5 @@ pub mod Sum
 pub mod Exact
 pub mod Compare
 pub mod Cells
+pub mod Equal
 pub mod Checks

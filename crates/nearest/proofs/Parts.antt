@@ -1,10 +1,10 @@
 -- The magnitude of finite bits as a significand and a power of two, and its order: of two finite bits with one sign the larger number has the
--- larger magnitude. Assumes nothing.
+-- larger magnitude, and no two have the same. Assumes nothing.
 use mathlib.Core.Path.{_≡_, refl, sym, ap, _∙_, subst}
 use mathlib.Core.Logic.{_⊎_, inl, inr}
 use mathlib.Core.Bool.{Bool, true, false, true≢false}
 use Prim.Native.Nat.{ℕ, zero, suc, _+_, _*_, _/_, _%_, _^_, _≤_, _<_}
-use native.Mathlib.Nat.{le-trans, le-of-eq, lt-of-lt-of-le, lt-irrefl, le-of-suc-le-suc, mul-one, mul-le-mul-left, mul-le-mul-right, mul-lt-mul-of-pos-right, mod-lt, le-add-right, not-suc-le-zero}
+use native.Mathlib.Nat.{le-trans, le-of-eq, eq-or-lt-of-le, lt-of-lt-of-le, lt-irrefl, le-of-suc-le-suc, mul-one, mul-le-mul-left, mul-le-mul-right, mul-lt-mul-of-pos-right, mod-lt, le-add-right, not-suc-le-zero}
 use native.Mathlib.Omega.{arith}
 use lib.Pow.{pow-add, pow-pos, pow-mono}
 use borrow.Author.Tests.{leb-true, leb-false, le-leb, lt-leb}
@@ -98,6 +98,18 @@ magnitude-rises x y fx fy s h = go (fields-order x y fx fy s h)
     go (inr l) =
         subst (λ (e : ℕ). scaled (exponent x) (fraction x) < scaled e (fraction y)) (l .0)
         (scaled-fraction (exponent x) (fraction x) (fraction y) (l .1))
+
+-- so bits are known by their sign and their magnitude
+pub one-magnitude : (x y : ℕ) → Finite x → Finite y → negative x ≡ negative y → magnitude x ≡ magnitude y → x ≡ y
+one-magnitude x y fx fy s e = go (either-way x y)
+  where
+    at-most : (x ≡ y) ⊎ (x < y) → x ≡ y
+    at-most (inl h) = h
+    at-most (inr l) = absurd (lt-irrefl (magnitude y) (subst (λ (m : ℕ). m < magnitude y) e (magnitude-rises x y fx fy s l)))
+
+    go : (x ≤ y) ⊎ (y < x) → x ≡ y
+    go (inl l) = at-most (eq-or-lt-of-le l)
+    go (inr l) = absurd (lt-irrefl (magnitude y) (subst (λ (m : ℕ). magnitude y < m) e (magnitude-rises y x fy fx (sym s) l)))
 
 -- ---- what lies between two finite bits with one sign is finite with that sign
 
