@@ -1,9 +1,10 @@
-// The F operations on words, each by one operation of f32 between the value of the bits and the bits of the value.
+// The F operations on words, each by one operation of f32 between the value of the bits and the bits of the value; and EQUAL of two FLOATs, by the bits.
 // f32's own readings are undefined at a NaN, so that a NaN is told apart before and after. It is told apart by a branch, so that the two words are
 // read one by one, as they were written.
 ghost use mathlib.Core.Path.{_≡_};
 ghost use lib.Ieee.{binary32, ofBits, toBits, isNan};
-ghost use Rattle.rules.specs.Floats.{plusF, minusF, timesF, quotientF, unordered, orderedF};
+ghost use Rattle.rules.specs.Floats.{plusF, minusF, timesF, quotientF, unordered, orderedF, equalF};
+ghost use Rattle.nearest.specs.Equal.{isZero};
 use word::tests::sense;
 
 // The bit of the sign.
@@ -20,6 +21,13 @@ fn is_nan(b: u32) -> bool
     ensures { λ r. ⌜ r ≡ isNan (ofBits binary32 b) ⌝ }
 {
     b % SIGN > INFINITY
+}
+
+// Whether the bits are one of the two zeros.
+fn is_zero(b: u32) -> bool
+    ensures { λ r. ⌜ r ≡ isZero b ⌝ }
+{
+    (b == 0) | (b == SIGN)
 }
 
 // The value that the bits stand for.
@@ -94,4 +102,14 @@ pub fn ordered_f(b: u32, t: u32) -> u32
     let x = value_of(b);
     let y = value_of(t);
     sense(x < y, y < x)
+}
+
+// EQUAL of two FLOATs: equal bits are equal values but for a NaN, which is equal to nothing; of unlike bits only the two zeros are equal.
+pub fn equal_f(b: u32, t: u32) -> bool
+    ensures { λ r. ⌜ r ≡ equalF b t ⌝ }
+{
+    if b == t {
+        return !is_nan(b);
+    }
+    is_zero(b) & is_zero(t)
 }

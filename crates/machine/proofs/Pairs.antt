@@ -41,15 +41,18 @@ left-over x few r =
     let high : 31 ≤ x → ⊥ = λ h. let l = past (Rest (Rest (Rest (Unit {0}) 0 5 x) 19 1 x) 25 1 x) 31 19 x r h in omega (arith, l, few) in
     (past (Unit {0}) 0 5 x (ones .0 .0) zero-le, omega (arith, high), ones .0 .1, ones .1)
 
--- of the pairs all but EQUAL have an arm of their own
-pub last-pair : (x : ℕ) → Paired x → Rest (Rest (Rest (Unit {0}) 5 14 x) 20 5 x) 26 4 x → x ≡ 30
-last-pair x (low, few, not19, not25) r =
-    let middle = beside (Rest (Rest (Unit {0}) 5 14 x) 20 5 x) 26 4 x r in
-    let first = beside (Rest (Unit {0}) 5 14 x) 20 5 x middle in
-    let a : 19 ≤ x = past (Unit {0}) 5 14 x first low in
-    let b : 25 ≤ x = past (Rest (Unit {0}) 5 14 x) 20 5 x middle (omega (arith, a, not19)) in
-    let c : 30 ≤ x = past (Rest (Rest (Unit {0}) 5 14 x) 20 5 x) 26 4 x r (omega (arith, b, not25)) in
-    omega (arith, c, few)
+-- of the pairs all but ADD have an arm of their own
+pub first-pair : (x : ℕ) → Paired x → Rest (Rest (Rest (Unit {0}) 6 13 x) 20 5 x) 26 5 x → x ≡ 5
+first-pair x (low, few, not19, not25) r = omega (arith, low, none)
+  where
+    none : 6 ≤ x → ⊥
+    none h =
+        let middle = beside (Rest (Rest (Unit {0}) 6 13 x) 20 5 x) 26 5 x r in
+        let first = beside (Rest (Unit {0}) 6 13 x) 20 5 x middle in
+        let a : 19 ≤ x = past (Unit {0}) 6 13 x first h in
+        let b : 25 ≤ x = past (Rest (Unit {0}) 6 13 x) 20 5 x middle (omega (arith, a, not19)) in
+        let c : 31 ≤ x = past (Rest (Rest (Unit {0}) 6 13 x) 20 5 x) 26 5 x r (omega (arith, b, not25)) in
+        omega (arith, c, few)
 
 -- ---- with fewer than two values
 

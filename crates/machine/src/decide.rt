@@ -29,7 +29,6 @@ fn on_pair(code: usize, r: Registers, vb: Cell, vt: Cell) -> Plan
     let b = vb.bits;
     let t = vt.bits;
     match code {
-        codes::ADD => families::on_sums(word::integers::plus(b, t), r, vb, vt),
         codes::SUB => families::on_sums(word::integers::minus(b, t), r, vb, vt),
         codes::TIMES => families::on_ints(word::integers::times(b, t), r, vb, vt),
         codes::DIV => families::on_divides(word::integers::quotient(b, t), r, vb, vt),
@@ -52,8 +51,9 @@ fn on_pair(code: usize, r: Registers, vb: Cell, vt: Cell) -> Plan
         codes::CMPF => families::on_compare_floats(r, vb, vt),
         codes::GREATER => families::on_ints(word::tests::greater(b, t), r, vb, vt),
         codes::LESS => families::on_ints(word::tests::less(b, t), r, vb, vt),
-        // what is left is EQUAL
-        _ => families::on_equal(r, vb, vt),
+        codes::EQUAL => families::on_equal(r, vb, vt),
+        // what is left is ADD, by which loops count: the arm that is left is reached without the table of jumps
+        _ => families::on_sums(word::integers::plus(b, t), r, vb, vt),
     }
 }
 

@@ -6,7 +6,7 @@ ghost use Rattle.rules.specs.declared.Decision.the-variants.{Does};
 ghost use mathlib.Core.Bool.{not};
 ghost use Rattle.rules.specs.Words.{bit, holds, bitNot, less};
 ghost use Rattle.rules.specs.State.{Memory, cellAt};
-ghost use Rattle.rules.specs.Decide.{result, jumped, called, programAddress, onDup, onSwap, onSums, onInts, onDivides, onFloats, onCompareFloats, onOne, agree, onEqual, onIsNil, onPopSp, onPopFbr, onJumpC, onJumpInd, onJsrInd};
+ghost use Rattle.rules.specs.Decide.{result, jumped, called, programAddress, onDup, onSwap, onSums, onInts, onDivides, onFloats, onCompareFloats, onOne, sameValue, agree, onEqual, onIsNil, onPopSp, onPopFbr, onJumpC, onJumpInd, onJsrInd};
 ghost use Rattle.machine.specs.Small.{Small};
 ghost use Rattle.machine.specs.Plan.{planned, Means};
 use crate::addresses;
@@ -166,14 +166,24 @@ pub(crate) fn on_is_neg(r: Registers, top: Cell) -> Plan
     on_one(word::tests::is_neg(top.bits), r, top)
 }
 
-// Whether two cells agree in tag and bits.
+// Whether two words that both have the tag are the same value: FLOATs by IEEE 754, others by their bits.
+fn same_value(tag: u8, b: u32, t: u32) -> bool
+    ensures { λ r. ⌜ r ≡ sameValue tag b t ⌝ }
+{
+    if tag == tags::FLOAT {
+        return floats::equal_f(b, t);
+    }
+    b == t
+}
+
+// Whether two cells agree in tag and value.
 fn agree(below: Cell, top: Cell) -> bool
     ensures { λ b. ⌜ b ≡ agree below top ⌝ }
 {
     if below.tag != top.tag {
         return false;
     }
-    below.bits == top.bits
+    same_value(below.tag, below.bits, top.bits)
 }
 
 pub(crate) fn on_equal(r: Registers, below: Cell, top: Cell) -> Plan
@@ -191,7 +201,7 @@ pub(crate) fn on_is_nil(r: Registers, top: Cell) -> Plan
     if r.sp < 1 {
         return TOO_FEW_VALUES;
     }
-    let v = word::tests::is_nil(top.bits);
+    let v = word::tests::bit(same_value(top.tag, top.bits, 0));
     plans::result(r, 1, int_cell(v))
 }
 

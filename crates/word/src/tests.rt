@@ -1,6 +1,5 @@
-// Tests of words: CMP, GREATER, LESS, ISNIL, ISPOS, ISNEG, and what JUMPC asks. An answer that is pushed is 0 or 1.
+// Tests of words: CMP, GREATER, LESS, ISPOS, ISNEG, and what JUMPC asks. An answer that is pushed is 0 or 1.
 ghost use mathlib.Core.Path.{_≡_};
-ghost use lib.Dec.{eqb};
 ghost use Rattle.rules.specs.Words.{bit, holds, less, sense, ordered};
 use crate::integers::signed;
 use rules::words;
@@ -60,13 +59,6 @@ pub fn ordered(b: u32, t: u32) -> u32
     ensures { λ r. ⌜ r ≡ ordered b t ⌝ }
 {
     sense(below(b, t), below(t, b))
-}
-
-// ISNIL: whether all bits are zero.
-pub fn is_nil(t: u32) -> u32
-    ensures { λ r. ⌜ r ≡ bit (eqb t 0) ⌝ }
-{
-    (t == 0) as u32
 }
 
 // ISPOS: Vt > 0.

@@ -9,8 +9,11 @@ returns : tie.Need-returns
 unfolding planned
 returns c m = rw (lt-leb _ _ (c .if1 .taken))
 
-is-nil-requires : tie.Need-is-nil-requires
-is-nil-requires c κs = search needs
+same-value-requires : tie.Need-same-value-requires
+same-value-requires c κs = search needs
+
+bit-requires : tie.Need-bit-requires
+bit-requires c κs = search needs
 
 int-cell-requires : tie.Need-int-cell-requires
 int-cell-requires c κs = search needs
@@ -20,8 +23,8 @@ result-requires c κs = search needs
 
 returns-2 : tie.Need-returns-2
 unfolding planned
-returns-2 c m = rw (c .result .ensures m, c .before .int-cell .ensures, c .before .before .is-nil .ensures, le-leb _ _ (c .before .before .before .if1 .left))
+returns-2 c m = rw (c .result .ensures m, c .before .int-cell .ensures, c .before .before .bit .ensures, c .before .before .before .same-value .ensures, le-leb _ _ (c .before .before .before .before .if1 .left))
 
 pub on-is-nil-spec : {M : Type 1} → statement M
 on-is-nil-spec =
-    tie.close (tie.spec returns is-nil-requires int-cell-requires result-requires returns-2)
+    tie.close (tie.spec returns same-value-requires bit-requires int-cell-requires result-requires returns-2)
