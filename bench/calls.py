@@ -45,6 +45,7 @@ class Script:
         self.numbers = Counter()  # of each call's answers
         self.calls = Counter()
         self.fault_lines = Counter()  # (number, line) of assemble; 2 stands for every later line
+        self.tests = Counter()  # (word, name, cells) of each EQUAL and ISNIL that was made alone
 
     def say(self, line):
         self.lines.append((line, None))

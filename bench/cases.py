@@ -1,13 +1,13 @@
 """The families of cases that compare.py draws from: each adds calls to a script."""
 
-from itertools import product
+from itertools import chain, product
 
 import sam
 from calls import ASSEMBLE_TOLD, IMAGE_BYTES, PLACES, TEXT_BYTES, LentMachine
 from programs import FLOAT_EDGES, INTEGER_EDGES, TWO_FLOATS, TWO_INTEGERS
 from programs import any_integer, any_operand, any_pattern, any_program
 from sam.actions import FLOAT, INT, MA, PA
-from sam.machine import cell_place, step_place
+from sam.machine import cell_place, cell_sound, step_place
 from sam.table import KINDS, NAMES
 from sources import any_source, corner_sources
 
@@ -254,6 +254,9 @@ def broken_case(chooser, script):
 
 # ---- one instruction at a time
 
+TAGS = (INT, FLOAT, MA, PA)
+VALUES_TESTED = {"EQUAL": 2, "ISNIL": 1}  # the tests of any tags, and how many values each takes
+
 
 def any_bits(chooser, tag, n):
     if tag == INT:
@@ -288,17 +291,50 @@ def single(instruction):
     return sam.Program(table, length)
 
 
+def stacked(*cells):
+    """These (tag, bits) on the stack, with room to record one result."""
+    tags, bits = map(list, zip(*cells, (INT, 0)))
+    return sam.State(bits, tags, [0, 0], sam.Registers(n=len(bits), h=2, sp=len(cells)))
+
+
 def edge_pairs():
     """Each instruction of two INTs or two FLOATs with each pair of edge values."""
     for names, tag, edges in [(TWO_INTEGERS, INT, INTEGER_EDGES), ([*TWO_FLOATS, "CMPF"], FLOAT, FLOAT_EDGES)]:
         for program, below, top in product(map(single, names), edges, edges):
-            registers = sam.Registers(n=3, h=2, sp=2)
-            yield program, sam.State([below % WORD, top % WORD, 0], [tag, tag, INT], [0, 0], registers)
+            yield program, stacked((tag, below % WORD), (tag, top % WORD))
+
+
+def edge_tests():
+    """EQUAL of every two edge patterns and ISNIL of every one, each under every tag that may have it."""
+    for name, count in VALUES_TESTED.items():
+        program = single(name)
+        cells = [cell for cell in product(TAGS, FLOAT_EDGES) if cell_sound(*cell, program.length)]
+        for values in product(cells, repeat=count):
+            yield program, stacked(*values)
+
+
+def edge_states():
+    return chain(edge_pairs(), edge_tests())
+
+
+def lend_single(script, word, program, state):
+    """A machine for one instruction. What a test is made of is counted, by the call (`word`) that follows."""
+    name = NAMES[program.table[0] >> 32]
+    if name in VALUES_TESTED:
+        sp = state.registers.sp
+        script.tests[word, name, tuple(state.cells(max(sp - VALUES_TESTED[name], 0), sp))] += 1
+    return LentMachine(script, program, state)
+
+
+def step_and_back(script, program, state):
+    lent = lend_single(script, "step", program, state)
+    lent.step()
+    lent.back()
 
 
 def instruction_corners(script):
-    for program, state in edge_pairs():
-        LentMachine(script, program, state).step()
+    for program, state in edge_states():
+        step_and_back(script, program, state)
 
 
 def any_single(chooser):
@@ -314,17 +350,19 @@ def any_single(chooser):
 
 
 def instruction_case(chooser, script):
-    lent = LentMachine(script, *any_single(chooser))
-    lent.step()
-    lent.back()
+    step_and_back(script, *any_single(chooser))
 
 
 # ---- the direct run in C, which the speeds are measured against
 
 
+def plain_single(script, program, state):
+    lend_single(script, "plain", program, state).run(1, word="plain")
+
+
 def plain_corners(script):
-    for program, state in edge_pairs():
-        LentMachine(script, program, state).run(1, word="plain")
+    for program, state in edge_states():
+        plain_single(script, program, state)
 
 
 def plain_series(chooser, script):
@@ -343,7 +381,7 @@ def plain_case(chooser, script):
     if chooser.randrange(2) == 0:
         plain_series(chooser, script)
     else:
-        LentMachine(script, *any_single(chooser)).run(1, word="plain")
+        plain_single(script, *any_single(chooser))
 
 
 # What a family has before its cases are drawn.

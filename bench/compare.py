@@ -4,7 +4,8 @@
     compare.py [--seed S] [--cases C] [--only FAMILY,..] [--console COMMAND] [--save FILE] DRIVER
 
 DRIVER and COMMAND are commands: a program, or an emulator and a program. Exit status 1 where anything differs, a
-number of the documents was never given back, or a fault of a source was never in a first line or never in a later one.
+number of the documents was never given back, a fault of a source was never in a first line or never in a later one, or
+a test of FLOATs that request b speaks of was never made.
 """
 
 import argparse
@@ -13,14 +14,22 @@ import shlex
 import subprocess
 import sys
 from collections import Counter
+from itertools import permutations, product
 
 import sam
 from calls import Script
 from cases import CORNERS, FAMILIES
+from programs import MINUS_ZERO, NANS, ZEROS
+from sam.actions import FLOAT
 from sources import any_source, every_refusal
 
 ALL_NUMBERS = [*range(0, 12), *range(21, 32), 33, *range(41, 46), 50]
 FAULTS = [*range(22, 31), 33]  # refusals of a source that have a line
+FLOAT_TESTS = [  # what request b changed
+    *[("EQUAL", ((FLOAT, zero), (FLOAT, other))) for zero, other in permutations(ZEROS)],
+    *[("EQUAL", ((FLOAT, nan), (FLOAT, nan))) for nan in NANS],
+    ("ISNIL", ((FLOAT, MINUS_ZERO),)),
+]
 CUT = 400  # characters of a line that a difference shows
 
 
@@ -112,15 +121,24 @@ def compare_console(command, seed, count):
     return True
 
 
-def all_met(script):
-    """Whether the cases led to every number, and to every fault of a source in its first line and in a later one."""
-    missing = [number for number in ALL_NUMBERS if number not in script.numbers]
-    missing_lines = [(number, line) for number in FAULTS for line in (1, 2) if (number, line) not in script.fault_lines]
+def all_in(counter, wanted, what):
+    missing = [item for item in wanted if item not in counter]
     if missing:
-        print(f"MISSING: never given back: {missing}")
-    if missing_lines:
-        print(f"MISSING: faults never in the first line (1) or never in a later one (2): {missing_lines}")
-    return not missing and not missing_lines
+        print(f"MISSING: {what}: {missing}")
+    return not missing
+
+
+def all_met(script):
+    """Whether the cases led to every number, to every fault of a source in its first line and in a later one, and to
+    every test of FLOATs by the proved step and by the direct run."""
+    lines = product(FAULTS, (1, 2))
+    tests = [(word, *test) for word in ("step", "plain") for test in FLOAT_TESTS]
+    complete = [
+        all_in(script.numbers, ALL_NUMBERS, "never given back"),
+        all_in(script.fault_lines, lines, "faults never in the first line (1) or never in a later one (2)"),
+        all_in(script.tests, tests, "tests never made"),
+    ]
+    return all(complete)
 
 
 def print_summary(script, seed, cases):

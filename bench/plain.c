@@ -1,5 +1,6 @@
-/* A direct C interpreter of document 01, as one would write it for speed: soundness is judged once, then a loop over
- * one switch whose cases test, record and write their cells themselves. The proved run is measured against it. */
+/* A direct C interpreter of document 01 with request b of document 02, as one would write it for speed: soundness is
+ * judged once, then a loop over one switch whose cases test, record and write their cells themselves. The proved run is
+ * measured against it. */
 #include "plain.h"
 
 #include <stdbool.h>
@@ -93,6 +94,17 @@ static inline uint32_t remainder_of(uint32_t below, uint32_t top) {
 }
 
 static inline struct cell compared(bool less, bool greater) { return integer((uint32_t)less - (uint32_t)greater); }
+
+/* C's == of two floats is the comparison of IEEE 754. */
+static inline bool equal(struct cell below, struct cell top) {
+    if (below.tag != top.tag) return false;
+    return below.tag == SAM_FLOAT ? as_float(below.bits) == as_float(top.bits) : below.bits == top.bits;
+}
+
+/* All bits are zero, save the sign of a FLOAT. */
+static inline bool nil(struct cell value) {
+    return (value.tag == SAM_FLOAT ? value.bits & 0x7FFFFFFFu : value.bits) == 0;
+}
 
 /* ---- history places */
 
@@ -213,8 +225,8 @@ static uint32_t repeat(struct machine *m, uint64_t limit, uint64_t *made) {
         }
         case GREATER: TWO_TAGGED(SAM_INT); RESULT_OF_TWO(integer((int32_t)vb.bits > (int32_t)vt.bits)); break;
         case LESS: TWO_TAGGED(SAM_INT); RESULT_OF_TWO(integer((int32_t)vb.bits < (int32_t)vt.bits)); break;
-        case EQUAL: TWO; RESULT_OF_TWO(integer(vb.bits == vt.bits && vb.tag == vt.tag)); break;
-        case ISNIL: ONE; RESULT_OF_ONE(integer(vt.bits == 0)); break;
+        case EQUAL: TWO; RESULT_OF_TWO(integer(equal(vb, vt))); break;
+        case ISNIL: ONE; RESULT_OF_ONE(integer(nil(vt))); break;
         case ISPOS: ONE_TAGGED(SAM_INT); RESULT_OF_ONE(integer((int32_t)vt.bits > 0)); break;
         case ISNEG: ONE_TAGGED(SAM_INT); RESULT_OF_ONE(integer((int32_t)vt.bits < 0)); break;
         case PUSHSP: PUSH(address(sp)); break;

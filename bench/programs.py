@@ -8,10 +8,13 @@ from sam.actions import FLOAT, INT, MA, PA
 from sam.table import INTEGER, KINDS, NAMES, OFFSET, PATTERN, TARGET
 
 INTEGER_EDGES = [0, 1, -1, 2, -2, 3, 7, 40, 255, 65535, 65536, 2**31 - 1, -(2**31), -(2**31) + 1, 2**30]
+MINUS_ZERO = 0x80000000
+ZEROS = [0x00000000, MINUS_ZERO]
+NANS = [0x7F800001, 0x7FC00000, 0x7FFFFFFF, 0xFF800001, 0xFFC00000, 0xFFFFFFFF]  # signalling and quiet
 FLOAT_EDGES = [
-    0x00000000, 0x80000000, 0x00000001, 0x80000001, 0x007FFFFF, 0x00800000, 0x00800001, 0x3F800000, 0xBF800000,
+    *ZEROS, 0x00000001, 0x80000001, 0x007FFFFF, 0x807FFFFF, 0x00800000, 0x80800000, 0x00800001, 0x3F800000, 0xBF800000,
     0x3F800001, 0x3F7FFFFF, 0x40200000, 0x40490FDB, 0x33800000, 0x34000000, 0x4B800000, 0x7F7FFFFF, 0xFF7FFFFF,
-    0x7F800000, 0xFF800000, 0x7FC00000, 0x7F800001, 0xFFFFFFFF,
+    0x7F800000, 0xFF800000, *NANS,
 ]  # fmt: skip
 
 TWO_INTEGERS = """
@@ -162,9 +165,16 @@ class Builder:
         self.put("PUSHIMM 1", "SUB", "DUP", f"JUMPC {label}")
         self.tags.append(INT)
 
+    def condition(self):
+        """Leaves an INT 0 or 1: pushed, or by a test of zeros and NaNs."""
+        chooser = self.chooser
+        one, other = (f"PUSHIMMF #{chooser.choice(ZEROS + NANS):08X}" for _ in range(2))
+        self.put(*chooser.choice([[f"PUSHIMM {chooser.randrange(2)}"], [one, other, "EQUAL"], [one, "ISNIL"]]))
+
     def branch(self):
         other, end = self.label(), self.label()
-        self.put(f"PUSHIMM {self.chooser.randrange(2)}", f"JUMPC {other}", "PUSHIMM 1", f"JUMP {end}")
+        self.condition()
+        self.put(f"JUMPC {other}", "PUSHIMM 1", f"JUMP {end}")
         self.put(f"{other}:", "PUSHIMM 2", f"{end}:")
         self.tags.append(INT)
 

@@ -1,6 +1,6 @@
 #!/usr/bin/env python3
-"""Tests of the interpreter in sam/: the twelve P examples of document 01, its sentences, request a, and the settled
-readings.
+"""Tests of the interpreter in sam/: the twelve P examples of document 01, its sentences, requests a and b, and the
+settled readings.
 
 Every expected value is read off the documents or worked out by hand; none is copied from an output.
 """
@@ -9,6 +9,7 @@ import ctypes
 import random
 import struct
 import unittest
+from itertools import product
 
 import sam
 from sam import floats
@@ -357,13 +358,6 @@ class Steps(unittest.TestCase):
         self.assertEqual(self.numbers("PUSHIMM 1 PUSHIMM 0 MOD"), [0, 0, 5])
         self.assertEqual(self.numbers("PUSHIMMF #7F800001 PUSHIMMF #00000000 CMPF"), [0, 0, 5])
 
-    def test_equal_and_nil(self):
-        self.assertEqual(self.cells("PUSHIMM 0 PUSHIMMF #00000000 EQUAL"), [(INT, 0)])
-        self.assertEqual(self.cells("PUSHIMMF #7FC00000 DUP EQUAL"), [(INT, 1)])
-        self.assertEqual(self.cells("PUSHIMMF #80000000 ISNIL"), [(INT, 0)])
-        self.assertEqual(self.cells("PUSHIMMPA 0 ISNIL"), [(INT, 1)])
-        self.assertEqual(self.cells("PUSHIMMF #80000000 PUSHIMMF #00000000 CMPF"), [(INT, 0)])
-
     def test_link_and_calls(self):
         numbers, state = stepped("PUSHIMM 7 LINK LINK STOP")
         self.assertEqual((live(state), state.registers.fbr), ([(INT, 7), (MA, 0), (MA, 1)], 2))
@@ -418,6 +412,121 @@ class Steps(unittest.TestCase):
                 self.assertEqual(set(state.bits) | set(state.tags) | set(state.history) | {9}, {9})
         state = sam.State(bits=[9], tags=[9], history=[])
         self.assertEqual(sam.reset(sam.Program(made.table, 1025), state), 10)
+
+
+class EqualAndNil(unittest.TestCase):
+    """Request b, and what it leaves of document 01."""
+
+    ZERO, MINUS_ZERO = 0x00000000, 0x80000000
+    ZEROS = [ZERO, MINUS_ZERO]
+    # Numbers that are not zero, no two of them equal: the least and the greatest denormal, the least normal number, 1,
+    # the greatest number and infinity, of both signs.
+    OTHERS = [0x00000001, 0x007FFFFF, 0x00800000, 0x3F800000, 0x7F7FFFFF, 0x7F800000]
+    OTHERS += [0x80000001, 0x807FFFFF, 0x80800000, 0xBF800000, 0xFF7FFFFF, 0xFF800000]
+    # The least and the greatest of the signalling and of the quiet ones, of both signs.
+    NANS = [0x7F800001, 0x7FBFFFFF, 0x7FC00000, 0x7FFFFFFF, 0xFF800001, 0xFFBFFFFF, 0xFFC00000, 0xFFFFFFFF]
+    PATTERNS = ZEROS + OTHERS + NANS
+    PROGRAM_ADDRESSES = [0, 1]  # "a PA cell above length" is 10, and the programs here have one instruction
+
+    def holds(self, name, *cells):
+        """Whether the instruction, on these cells alone, leaves INT 1; otherwise it leaves INT 0."""
+        tags, bits = map(list, zip(*cells, (INT, 0)))
+        state = sam.State(bits, tags, [], sam.Registers(n=len(bits), sp=len(cells)))
+        self.assertEqual(sam.step(program(name), state), 0, cells)
+        self.assertIn(live(state), ([(INT, 0)], [(INT, 1)]), cells)
+        return live(state) == [(INT, 1)]
+
+    def floats_equal(self, below, top):
+        return self.holds("EQUAL", (FLOAT, below), (FLOAT, top))
+
+    def test_zeros(self):
+        """ "both zeros equal", and no other number equal to either."""
+        for zero, other in product(self.ZEROS, self.ZEROS):
+            self.assertTrue(self.floats_equal(zero, other), (zero, other))
+        for zero, other in product(self.ZEROS, self.OTHERS):
+            self.assertFalse(self.floats_equal(zero, other), (zero, hex(other)))
+            self.assertFalse(self.floats_equal(other, zero), (hex(other), zero))
+
+    def test_nans(self):
+        """ "a NaN equal to nothing", itself included."""
+        for nan, other in product(self.NANS, self.PATTERNS):
+            self.assertFalse(self.floats_equal(nan, other), (hex(nan), hex(other)))
+            self.assertFalse(self.floats_equal(other, nan), (hex(other), hex(nan)))
+
+    def test_numbers(self):
+        for below, top in product(self.OTHERS, self.OTHERS):
+            self.assertEqual(self.floats_equal(below, top), below == top, (hex(below), hex(top)))
+
+    def test_other_tags(self):
+        """ "Other tags stay": "1 if tags and all 32 bits agree"."""
+        for tag, patterns in [(INT, self.PATTERNS), (MA, self.PATTERNS), (PA, self.PROGRAM_ADDRESSES)]:
+            for below, top in product(patterns, patterns):
+                self.assertEqual(self.holds("EQUAL", (tag, below), (tag, top)), below == top, (tag, below, top))
+
+    def test_unlike_tags(self):
+        """ "unlike tags still give 0", with equal bits too."""
+        cells = [*product([INT, FLOAT, MA], self.PATTERNS), *product([PA], self.PROGRAM_ADDRESSES)]
+        for (below_tag, below), (top_tag, top) in product(cells, cells):
+            if below_tag != top_tag:
+                self.assertFalse(self.holds("EQUAL", (below_tag, below), (top_tag, top)), (below, top))
+
+    def test_nil(self):
+        """ "ISNIL of a FLOAT is 1 for both zeros." Of other tags "1 if all bits are zero"."""
+        for zero in self.ZEROS:
+            self.assertTrue(self.holds("ISNIL", (FLOAT, zero)), zero)
+        for tag in (INT, MA, PA):
+            self.assertTrue(self.holds("ISNIL", (tag, 0)), tag)
+        not_nil = list(product([FLOAT, INT, MA], self.OTHERS + self.NANS))
+        for cell in not_nil + [(INT, self.MINUS_ZERO), (MA, self.MINUS_ZERO), (PA, 1)]:
+            self.assertFalse(self.holds("ISNIL", cell), cell)
+
+    def branch(self, text):
+        """Whether a program jumps on the INT that the text leaves on top; the text's other values are below."""
+        numbers, state = stepped(text + " JUMPC yes PUSHIMM 7 STOP yes: PUSHIMM 8 STOP")
+        self.assertEqual(set(numbers), {0}, text)
+        return {(INT, 7): False, (INT, 8): True}[live(state)[-1]]
+
+    def test_complaint(self):
+        """ "A program got minus zero and took the wrong branch." """
+        for text in [
+            "PUSHIMMF #BF800000 PUSHIMMF #00000000 TIMESF",  # -1 times 0
+            "PUSHIMMF #00000000 PUSHIMMF #C0000000 TIMESF",  # 0 times -2
+            "PUSHIMMF #00000000 PUSHIMMF #BF800000 DIVF",  # 0 by -1
+            "PUSHIMMF #3F800000 PUSHIMMF #FF800000 DIVF",  # 1 by minus infinity
+            "PUSHIMMF #80000001 PUSHIMMF #3F000000 TIMESF",  # half the least, a tie to even
+            "PUSHIMMF #80000000 PUSHIMMF #00000000 SUBF",  # -0 less 0
+        ]:
+            numbers, state = stepped(text)
+            self.assertEqual((numbers, live(state)), ([0, 0, 0, 2], [(FLOAT, self.MINUS_ZERO)]), text)
+            self.assertTrue(self.branch(text + " PUSHIMMF #00000000 EQUAL"), text)
+            self.assertTrue(self.branch("PUSHIMMF #00000000 " + text + " EQUAL"), text)
+            self.assertTrue(self.branch(text + " DUP EQUAL"), text)
+            self.assertTrue(self.branch(text + " ISNIL"), text)
+            self.assertFalse(self.branch(text + " PUSHIMMF #80000001 EQUAL"), text)
+            self.assertFalse(self.branch(text + " PUSHIMM 0 EQUAL"), text)  # unlike tags
+
+    def test_nan_by_arithmetic(self):
+        zero_by_zero = "PUSHIMMF #00000000 DUP DIVF"
+        self.assertFalse(self.branch(zero_by_zero + " DUP EQUAL"))
+        self.assertFalse(self.branch(zero_by_zero + " ISNIL"))
+
+    def test_numbers_given_back(self):
+        """3, 8 and nothing else: neither a tag nor a NaN is refused."""
+        self.assertEqual(stepped("PUSHIMMF #80000000 EQUAL")[0], [0, 3])
+        self.assertEqual(stepped("ISNIL")[0], [3])
+        self.assertEqual(stepped("PUSHIMMF #7F800001 DUP EQUAL", h=6)[0], [0, 0, 0, 2])
+        self.assertEqual(stepped("PUSHIMMF #7F800001 DUP EQUAL", h=5)[0], [0, 0, 8])
+        self.assertEqual(stepped("PUSHIMMF #7F800001 DUP CMPF", h=6)[0], [0, 0, 5])
+        self.assertEqual(stepped("PUSHIMMF #80000000 PUSHIMMF #00000000 CMPF")[0], [0, 0, 0, 2])
+
+    def test_step_back(self):
+        made, state = started("PUSHIMMF #80000000 PUSHIMMF #00000000 EQUAL", h=6)
+        self.assertEqual([sam.step(made, state) for _ in range(3)], [0, 0, 0])
+        self.assertEqual(live(state), [(INT, 1)])
+        self.assertEqual(state.history[4:], [0x000C000000000000, 0x8020080000400000])
+        self.assertEqual(sam.step_back(made, state), 0)
+        self.assertEqual(live(state), [(FLOAT, self.MINUS_ZERO), (FLOAT, self.ZERO)])
+        self.assertEqual(state.registers, sam.Registers(n=16, h=6, pc=2, sp=2, used=4))
 
 
 class Soundness(unittest.TestCase):
@@ -488,7 +597,7 @@ class Soundness(unittest.TestCase):
 
 class Floats(unittest.TestCase):
     """Against the host: a sum, difference, product or quotient of binary32 values taken in binary64 and rounded again
-    is rounded as if once, since 53 is at least 2 * 24 + 2."""
+    is rounded as if once, since 53 is at least 2 * 24 + 2. Equality of binary32 values is the same in binary64."""
 
     OPERATIONS = [
         (floats.add, lambda a, b: a + b),
@@ -497,10 +606,15 @@ class Floats(unittest.TestCase):
         (floats.divide, lambda a, b: a / b),
     ]
 
+    EDGES = [0, 1, 0x7FFFFF, 0x800000, 0x3F800000, 0x3F800001, 0x7F7FFFFF, 0x7F800000, 0x7F800001, 0x7FC00000]
+    EDGES += [bits | 1 << 31 for bits in EDGES]
+
+    def host_value(self, bits):
+        return struct.unpack("<f", struct.pack("<I", bits))[0]
+
     def host(self, operation, below, top):
-        below, top = (struct.unpack("<f", struct.pack("<I", bits))[0] for bits in (below, top))
         try:
-            result = operation(below, top)
+            result = operation(self.host_value(below), self.host_value(top))
         except ZeroDivisionError:
             return None
         if result != result:
@@ -508,13 +622,11 @@ class Floats(unittest.TestCase):
         return struct.unpack("<I", bytes(ctypes.c_float(result)))[0]
 
     def patterns(self, chooser):
-        edges = [0, 1, 0x7FFFFF, 0x800000, 0x3F800000, 0x3F800001, 0x7F7FFFFF, 0x7F800000, 0x7F800001, 0x7FC00000]
-        edges += [bits | 1 << 31 for bits in edges]
         while True:
-            near = chooser.choice(edges) + chooser.randrange(-3, 4)
+            near = chooser.choice(self.EDGES) + chooser.randrange(-3, 4)
             base = chooser.randrange(1 << 32)
             alike = base & 0xFF800000 | chooser.randrange(1 << 23)
-            yield chooser.choice([near % (1 << 32), base, alike]), chooser.choice([chooser.choice(edges), base])
+            yield chooser.choice([near % (1 << 32), base, alike]), chooser.choice([chooser.choice(self.EDGES), base])
 
     def test_against_host(self):
         for (below, top), _ in zip(self.patterns(random.Random(1)), range(20000)):
@@ -530,6 +642,12 @@ class Floats(unittest.TestCase):
         self.assertEqual(floats.divide(zero, minus), floats.NAN)
         self.assertEqual(floats.divide(0x7F800000, minus), 0xFF800000)
         self.assertEqual(floats.divide(floats.NAN, zero), floats.NAN)
+
+    def test_equal_against_host(self):
+        drawn = [pair for pair, _ in zip(self.patterns(random.Random(2)), range(5000))]
+        for below, top in [*product(self.EDGES, self.EDGES), *drawn]:
+            expected = self.host_value(below) == self.host_value(top)
+            self.assertEqual(floats.equal(below, top), expected, (hex(below), hex(top)))
 
     def test_compare(self):
         self.assertEqual(floats.compare(0x3F800000, 0x40000000), 1)

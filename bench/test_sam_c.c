@@ -1,4 +1,5 @@
-/* Tests of the C library through sam.h: the complaint, and samples of every refusal. One line for each check. */
+/* Tests of the C library through sam.h: the complaint of document 01, that of request b, and samples of every refusal.
+ * One line for each check. */
 #include <stdbool.h>
 #include <stdio.h>
 #include <string.h>
@@ -115,6 +116,116 @@ static void test_complaint(void) {
     check("  step-back", 0, step_back());
     check("  step-back", 0, step_back());
     check("  step-back with U = 0", 9, step_back());
+}
+
+/* ---- request b: a program got minus zero and took the wrong branch */
+
+/* A FLOAT by arithmetic, the test of it, and the branches: 1 where it is not zero, 2 where it is. */
+#define BRANCHES " JUMPC zero PUSHIMM 1 STOP zero: PUSHIMM 2 STOP"
+#define EQUAL_ZERO " PUSHIMMF #00000000 EQUAL" BRANCHES
+#define ZERO_EQUAL " PUSHIMMF #00000000 SWAP EQUAL" BRANCHES
+#define IS_NIL " ISNIL" BRANCHES
+#define MINUS_ONE_TIMES_ZERO "PUSHIMMF #BF800000 PUSHIMMF #00000000 TIMESF"
+#define ZERO_BY_MINUS_ONE "PUSHIMMF #00000000 PUSHIMMF #BF800000 DIVF"
+#define MINUS_ONE_TIMES_ONE "PUSHIMMF #BF800000 PUSHIMMF #3F800000 TIMESF"
+#define LEAST_TIMES_MINUS_ONE "PUSHIMMF #00000001 PUSHIMMF #BF800000 TIMESF"
+#define ZERO_BY_ZERO "PUSHIMMF #00000000 PUSHIMMF #80000000 DIVF"
+
+enum { ARITHMETIC_STEPS = 3, NOT_ZERO = 1, ZERO = 2 };
+
+static const struct { const char *source; uint32_t computed, taken; } float_branches[] = {
+    {MINUS_ONE_TIMES_ZERO EQUAL_ZERO, 0x80000000, ZERO},
+    {MINUS_ONE_TIMES_ZERO ZERO_EQUAL, 0x80000000, ZERO},
+    {MINUS_ONE_TIMES_ZERO IS_NIL, 0x80000000, ZERO},
+    {ZERO_BY_MINUS_ONE EQUAL_ZERO, 0x80000000, ZERO},
+    {ZERO_BY_MINUS_ONE IS_NIL, 0x80000000, ZERO},
+    {MINUS_ONE_TIMES_ONE EQUAL_ZERO, 0xBF800000, NOT_ZERO},
+    {MINUS_ONE_TIMES_ONE IS_NIL, 0xBF800000, NOT_ZERO},
+    {LEAST_TIMES_MINUS_ONE EQUAL_ZERO, 0x80000001, NOT_ZERO},
+    {LEAST_TIMES_MINUS_ONE IS_NIL, 0x80000001, NOT_ZERO},
+    {ZERO_BY_ZERO EQUAL_ZERO, 0x7FC00000, NOT_ZERO},
+    {ZERO_BY_ZERO IS_NIL, 0x7FC00000, NOT_ZERO},
+};
+
+/* Runs to the end, where one INT is left. */
+static void check_left(const char *name, uint32_t value) {
+    check("  run", 0, run(100));
+    check("  SP", 1, registers[SAM_SP]);
+    check_cell(name, 0, SAM_INT, value);
+}
+
+static void test_float_branches(void) {
+    for (size_t i = 0; i < sizeof float_branches / sizeof float_branches[0]; i++) {
+        printf("%s\n", float_branches[i].source);
+        begin(float_branches[i].source, 16, 0);
+        check("  run to the float", 50, run(ARITHMETIC_STEPS));
+        check_cell("  the float", 0, SAM_FLOAT, float_branches[i].computed);
+        check_left("  the branch taken", float_branches[i].taken);
+    }
+}
+
+/* One test of what a program pushes, and the INT that it leaves. */
+static const struct { const char *source; uint32_t answer; } single_tests[] = {
+    {"PUSHIMMF #00000000 PUSHIMMF #80000000 EQUAL STOP", 1},
+    {"PUSHIMMF #80000000 PUSHIMMF #00000000 EQUAL STOP", 1},
+    {"PUSHIMMF #80000000 PUSHIMMF #80000000 EQUAL STOP", 1},
+    {"PUSHIMMF #7FC00000 PUSHIMMF #7FC00000 EQUAL STOP", 0},
+    {"PUSHIMMF #7F800001 PUSHIMMF #7F800001 EQUAL STOP", 0},
+    {"PUSHIMMF #FFFFFFFF PUSHIMMF #FFFFFFFF EQUAL STOP", 0},
+    {"PUSHIMMF #FFC00000 PUSHIMMF #7F800000 EQUAL STOP", 0},
+    {"PUSHIMMF #7F800000 PUSHIMMF #7F800000 EQUAL STOP", 1},
+    {"PUSHIMMF #FF800000 PUSHIMMF #FF800000 EQUAL STOP", 1},
+    {"PUSHIMMF #7F800000 PUSHIMMF #FF800000 EQUAL STOP", 0},
+    {"PUSHIMMF #80000001 PUSHIMMF #80000001 EQUAL STOP", 1},
+    {"PUSHIMMF #80000001 PUSHIMMF #00000001 EQUAL STOP", 0},
+    {"PUSHIMMF #00000001 PUSHIMMF #80000000 EQUAL STOP", 0},
+    {"PUSHIMMF #40200000 PUSHIMMF #40200000 EQUAL STOP", 1},
+    {"PUSHIMMF #40200000 PUSHIMMF #C0200000 EQUAL STOP", 0},
+    {"PUSHIMM 0 PUSHIMMF #00000000 EQUAL STOP", 0},
+    {"PUSHIMMF #80000000 PUSHIMM -2147483648 EQUAL STOP", 0},
+    {"PUSHFBR PUSHIMMF #80000000 EQUAL STOP", 0},
+    {"PUSHIMMF #00000000 PUSHIMMPA 0 EQUAL STOP", 0},
+    {"PUSHIMM -2147483648 PUSHIMM 0 EQUAL STOP", 0},
+    {"PUSHIMM 2143289344 PUSHIMM 2143289344 EQUAL STOP", 1}, /* the bits #7FC00000 */
+    {"PUSHFBR PUSHFBR EQUAL STOP", 1},
+    {"PUSHIMMPA 1 PUSHIMMPA 1 EQUAL STOP", 1},
+    {"PUSHIMMF #00000000 ISNIL STOP", 1},
+    {"PUSHIMMF #80000000 ISNIL STOP", 1},
+    {"PUSHIMMF #00000001 ISNIL STOP", 0},
+    {"PUSHIMMF #80000001 ISNIL STOP", 0},
+    {"PUSHIMMF #BF800000 ISNIL STOP", 0},
+    {"PUSHIMMF #FF800000 ISNIL STOP", 0},
+    {"PUSHIMMF #7FC00000 ISNIL STOP", 0},
+    {"PUSHIMMF #FF800001 ISNIL STOP", 0},
+    {"PUSHIMM 0 ISNIL STOP", 1},
+    {"PUSHIMM -2147483648 ISNIL STOP", 0},
+    {"PUSHFBR ISNIL STOP", 1},
+    {"PUSHSP PUSHIMM -2147483648 ADD ISNIL STOP", 0},
+    {"PUSHIMMPA 0 ISNIL STOP", 1},
+    {"PUSHIMMPA 1 ISNIL STOP", 0},
+};
+
+static void test_single_tests(void) {
+    for (size_t i = 0; i < sizeof single_tests / sizeof single_tests[0]; i++) {
+        printf("%s\n", single_tests[i].source);
+        begin(single_tests[i].source, 16, 0);
+        check_left("  the answer", single_tests[i].answer);
+    }
+}
+
+static void test_equal_back(void) {
+    puts("EQUAL of minus zero and zero, then one step-back");
+    begin("PUSHIMMF #80000000 PUSHIMMF #00000000 EQUAL", 16, 6);
+    check("  run", 50, run(3));
+    check_cell("  after EQUAL", 0, SAM_INT, 1);
+    check("  cell place", UINT64_C(0x000C000000000000), history[4]);
+    check("  step place", UINT64_C(0x8020080000400000), history[5]);
+    check("  step-back", 0, step_back());
+    check_cell("  Vb after the step-back", 0, SAM_FLOAT, 0x80000000);
+    check_cell("  Vt after the step-back", 1, SAM_FLOAT, 0x00000000);
+    check("  PC", 2, registers[SAM_PC]);
+    check("  SP", 2, registers[SAM_SP]);
+    check("  U", 4, registers[SAM_U]);
 }
 
 /* ---- told and registers of another length */
@@ -373,6 +484,9 @@ static void test_images(void) {
 
 int main(void) {
     test_complaint();
+    test_float_branches();
+    test_single_tests();
+    test_equal_back();
     test_lengths();
     test_steps();
     test_reset();

@@ -1,4 +1,4 @@
-"""What each instruction does: document 01, "Instructions".
+"""What each instruction does: document 01, "Instructions", and request b of document 02.
 
 An action works on a Move: it takes values off, puts results on, and notes the cells it would write. Nothing of the
 machine changes until the whole step is accepted, so an action may refuse at any point.
@@ -125,16 +125,24 @@ def compare_floats(move):
     move.push(INT, floats.compare(below, top))
 
 
+def cells_equal(below, top):
+    """Two FLOATs by request b; otherwise "1 if tags and all 32 bits agree"."""
+    (below_tag, below_bits), (top_tag, top_bits) = below, top
+    if below_tag == FLOAT and top_tag == FLOAT:
+        return floats.equal(below_bits, top_bits)
+    return below == top
+
+
 def equal(move):
-    """ "1 if tags and all 32 bits agree" """
-    below, top = move.pop(ANY, ANY)
-    move.push(INT, below == top)
+    """ "EQUAL of two FLOATs shall follow IEEE 754 comparison: both zeros equal, a NaN equal to nothing. [...] Other
+    tags stay, and unlike tags still give 0." """
+    move.push(INT, cells_equal(*move.pop(ANY, ANY)))
 
 
 def is_nil(move):
-    """ "any tag, 1 if all bits are zero" """
-    ((_, top),) = move.pop(ANY)
-    move.push(INT, top == 0)
+    """ "ISNIL of a FLOAT is 1 for both zeros. Other tags stay": "1 if all bits are zero"."""
+    ((tag, top),) = move.pop(ANY)
+    move.push(INT, floats.is_zero(top) if tag == FLOAT else top == 0)
 
 
 # ---- the stack and the registers

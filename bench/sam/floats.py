@@ -103,6 +103,15 @@ def ordinal(bits):
     return -(bits & ~SIGN) if bits & SIGN else bits
 
 
+def equal(below, top):
+    """ "EQUAL of two FLOATs shall follow IEEE 754 comparison: both zeros equal, a NaN equal to nothing." """
+    if is_nan(below) or is_nan(top):
+        return False
+    if is_infinite(below) or is_infinite(top):
+        return below == top
+    return value(below) == value(top)
+
+
 def compare(below, top):
     """ "CMP and CMPF give 1 if Vb < Vt, 0 if equal, -1 if Vb > Vt." """
     return (ordinal(below) < ordinal(top)) - (ordinal(below) > ordinal(top))
