@@ -1,12 +1,13 @@
--- The definitions at bits that everyone knows, computed: the smallest value, 1, -2.5, the largest, and what the midpoint is
--- halfway between. And a decimal and an INT rounded by the theorem: 0.1, and 2 ^ 24 + 1, which is a tie. Assumes nothing.
+-- The definitions at bits that everyone knows, computed: the smallest value, 1, -2.5, the largest, what the midpoint is halfway between, and for EQUAL
+-- both zeros, an infinity and a NaN. And a decimal and an INT rounded by the theorem: 0.1, and 2 ^ 24 + 1, which is a tie. Assumes nothing.
 use mathlib.Core.Path.{_≡_, refl}
 use Prim.Native.Nat.{_+_, _-_, _*_, _^_}
 use lib.IntN.{pos, negℤ, _*ℤ_}
-use mathlib.Core.Bool.{false}
+use mathlib.Core.Bool.{true, false}
 use lib.Dec.{lit<}
 use lib.Ieee.{round, toBits}
 use Rattle.nearest.specs.Nearest.{scale, magnitude, exact, midpoint, Rounded}
+use Rattle.nearest.specs.Equal.{sameFloat}
 use Rattle.nearest.proofs.Unique.{round-rounded}
 
 smallest : magnitude 0x0000_0001 ≡ 1
@@ -27,6 +28,15 @@ largest = refl
 
 halfway : midpoint + midpoint ≡ (2 ^ 24 - 1) * 2 ^ 104 + 2 ^ 128
 halfway = refl
+
+both-zeros : sameFloat 0x0000_0000 0x8000_0000 ≡ true
+both-zeros = refl
+
+infinity-itself : sameFloat 0x7f80_0000 0x7f80_0000 ≡ true
+infinity-itself = refl
+
+not-a-number : sameFloat 0x7fc0_0000 0x7fc0_0000 ≡ false
+not-a-number = refl
 
 tenth : Rounded false 1 10 0x3dcc_cccd
 unfolding round toBits

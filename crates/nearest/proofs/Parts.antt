@@ -4,7 +4,7 @@ use mathlib.Core.Path.{_≡_, refl, sym, ap, _∙_, subst}
 use mathlib.Core.Logic.{_⊎_, inl, inr}
 use mathlib.Core.Bool.{Bool, true, false, true≢false}
 use Prim.Native.Nat.{ℕ, zero, suc, _+_, _*_, _/_, _%_, _^_, _≤_, _<_}
-use native.Mathlib.Nat.{le-trans, le-of-eq, eq-or-lt-of-le, lt-of-lt-of-le, lt-irrefl, le-of-suc-le-suc, mul-one, mul-le-mul-left, mul-le-mul-right, mul-lt-mul-of-pos-right, mod-lt, le-add-right, not-suc-le-zero}
+use native.Mathlib.Nat.{le-trans, le-of-eq, lt-of-lt-of-le, lt-irrefl, le-of-suc-le-suc, mul-one, mul-le-mul-left, mul-le-mul-right, mul-lt-mul-of-pos-right, mod-lt, le-add-right, not-suc-le-zero}
 use native.Mathlib.Omega.{arith}
 use lib.Pow.{pow-add, pow-pos, pow-mono}
 use borrow.Author.Tests.{leb-true, leb-false, le-leb, lt-leb}
@@ -101,15 +101,10 @@ magnitude-rises x y fx fy s h = go (fields-order x y fx fy s h)
 
 -- so bits are known by their sign and their magnitude
 pub one-magnitude : (x y : ℕ) → Finite x → Finite y → negative x ≡ negative y → magnitude x ≡ magnitude y → x ≡ y
-one-magnitude x y fx fy s e = go (either-way x y)
-  where
-    at-most : (x ≡ y) ⊎ (x < y) → x ≡ y
-    at-most (inl h) = h
-    at-most (inr l) = absurd (lt-irrefl (magnitude y) (subst (λ (m : ℕ). m < magnitude y) e (magnitude-rises x y fx fy s l)))
-
-    go : (x ≤ y) ⊎ (y < x) → x ≡ y
-    go (inl l) = at-most (eq-or-lt-of-le l)
-    go (inr l) = absurd (lt-irrefl (magnitude y) (subst (λ (m : ℕ). magnitude y < m) e (magnitude-rises y x fy fx (sym s) l)))
+one-magnitude x y fx fy s e =
+    let low : x < y → ⊥ = λ l. let m = magnitude-rises x y fx fy s l in omega (arith, m, e) in
+    let high : y < x → ⊥ = λ l. let m = magnitude-rises y x fy fx (sym s) l in omega (arith, m, e) in
+    omega (arith, low, high)
 
 -- ---- what lies between two finite bits with one sign is finite with that sign
 
