@@ -1,107 +1,77 @@
--- A field in pieces, one of each byte that it touches: one law for every width. Assumes nothing.
-use Prim.Native.Nat.{ℕ, suc, _+_, _*_, _/_, _%_, _^_, _≤_, _<_}
-use mathlib.Core.Path.{_≡_, sym, ap, ap₂, _∙_, subst}
+-- The bytes that a field covers, and the bits beside it in the first and the last of them: one law for every width. Assumes nothing.
+use Prim.Native.Nat.{ℕ, suc, _+_, _-_, _*_, _/_, _%_, _^_, _≤_, _<_}
+use mathlib.Core.Path.{_≡_, sym, ap, ap₂, _∙_}
 use mathlib.Core.List.{List, _++_, append-assoc}
-use native.Mathlib.Nat.{mod-lt, lt-of-lt-of-le}
+use native.Mathlib.Nat.{mod-lt, lt-of-lt-of-le, add-zero}
 use native.Mathlib.Omega.{arith}
 use lib.Arith.{digits-lt}
 use lib.ListN.{length, take, drop, getD, set, length-drop}
-use lib.Pow.{pow-pos, pow-add, pow-mono, shr-lt, shr-shr}
+use lib.Pow.{pow-pos, pow-add, pow-mono}
 use lib.Seq.{take-append-le, drop-append-le, drop-append-add, drop-drop, take-add}
 use Rattle.rules.specs.Lists.{part, splice}
 use Rattle.rules.specs.Fields.{field, bitsOf}
-use Rattle.rules.proofs.Fields.{field-length, field-split, field-mod, field-join, field-three, field-at, bitsOf-at, bitsOf-set, bitsOf-front}
-use Rattle.rules.proofs.Splice.{splice-beside, splice-inside, splice-mid}
+use Rattle.rules.proofs.Fields.{field-length, field-split, field-mod, field-join, field-at, bitsOf-length, bitsOf-at, bitsOf-set, bitsOf-front}
+use Rattle.rules.proofs.Splice.{splice-mid, splice-before, splice-within}
 
--- ---- a byte of any width j + n + c, with n bits of u written over it at bit j
-module _ (j n c b u low span : ℕ) (el : low ≡ 2 ^ c) (es : span ≡ 2 ^ n) (h : b < 2 ^ (j + n + c)) where
-  high-most : b / low / span * span + u % span < 2 ^ (j + n)
-  high-most = rw (el, es, pow-add 2 j n) (digits-lt (shr-lt j n (shr-lt (j + n) c h)) (mod-lt u (pow-pos n)))
+-- n bits of a number of j + n + c bits
+pub piece-read : (j n c b : ℕ) {w low span : ℕ} → j + n + c ≡ w → low ≡ 2 ^ c → span ≡ 2 ^ n → field n (b / low % span) ≡ part j n (field w b)
+piece-read j n c b e el es = rw (el, es) (field-mod n (b / 2 ^ c) ∙ sym (field-at j n c b) ∙ ap (λ (k : ℕ). part j n (field k b)) e)
 
-  whole-most : (b / low / span * span + u % span) * low + b % low < 2 ^ (j + n + c)
+-- ---- three numbers side by side: h of j bits, the low n bits of v, and t of c bits
+module _ (j n c h v t : ℕ) {span low : ℕ} (es : span ≡ 2 ^ n) (el : low ≡ 2 ^ c) (hh : h < 2 ^ j) (ht : t < 2 ^ c) where
+  high-most : h * span + v % span < 2 ^ (j + n)
+  high-most = rw (es, pow-add 2 j n) (digits-lt hh (mod-lt v (pow-pos n)))
+
+  whole-most : (h * span + v % span) * low + t < 2 ^ (j + n + c)
   whole-most =
       let m = high-most in
-      rw (pow-add 2 (j + n) c, ← el) (digits-lt m (subst (λ (k : ℕ). b % k < k) (sym el) (mod-lt b (pow-pos c))))
+      rw (el, pow-add 2 (j + n) c) (digits-lt m ht)
 
-  written : field (j + n + c) ((b / low / span * span + u % span) * low + b % low) ≡ splice (field (j + n + c) b) j (field n u)
-  written =
-      let f : List ℕ = field j (b / 2 ^ c / 2 ^ n) in
-      let g : List ℕ = field n (b / 2 ^ c) in
-      rw (el, es)
-      (field-join (j + n) c (b / 2 ^ c / 2 ^ n * 2 ^ n + u % 2 ^ n) (b % 2 ^ c) (mod-lt b (pow-pos c))
-      ∙ ap₂ (λ (p q : List ℕ). p ++ q)
-      (field-join j n (b / 2 ^ c / 2 ^ n) (u % 2 ^ n) (mod-lt u (pow-pos n)) ∙ ap (λ (l : List ℕ). f ++ l) (field-mod n u))
-      (field-mod c b)
-      ∙ append-assoc f (field n u) (field c b)
-      ∙ sym (ap (λ (l : List ℕ). splice l j (field n u)) (field-three j n c b ∙ append-assoc f g (field c b))
-      ∙ splice-mid f g (field c b) (field n u) j (field-length j _) (field-length n _ ∙ sym (field-length n u))))
+  pub high-fits : (w : ℕ) → j + n ≤ w → h * span + v % span < 2 ^ w
+  high-fits w k = lt-of-lt-of-le high-most (pow-mono k)
 
--- the same at a width w that is the sum; and the bits of b that stand there
-module _ (w j n c b u low span : ℕ) (e : j + n + c ≡ w) (el : low ≡ 2 ^ c) (es : span ≡ 2 ^ n) (h : b < 2 ^ w) where
-  inside : b < 2 ^ (j + n + c)
-  inside = subst (λ (k : ℕ). b < 2 ^ k) (sym e) h
+  pub whole-fits : (w : ℕ) → j + n + c ≤ w → (h * span + v % span) * low + t < 2 ^ w
+  whole-fits w k = lt-of-lt-of-le whole-most (pow-mono k)
 
-  pub high-fits : b / low / span * span + u % span < 2 ^ w
-  high-fits = lt-of-lt-of-le (high-most j n c b u low span el es inside) (pow-mono (omega arith))
+  pub side-by-side : field (j + n + c) ((h * span + v % span) * low + t) ≡ field j h ++ (field n v ++ field c t)
+  side-by-side =
+      rw (es, el)
+      (field-join (j + n) c (h * 2 ^ n + v % 2 ^ n) t ht
+      ∙ ap (λ (l : List ℕ). l ++ field c t) (field-join j n h (v % 2 ^ n) (mod-lt v (pow-pos n)) ∙ ap (λ (l : List ℕ). field j h ++ l) (field-mod n v))
+      ∙ append-assoc (field j h) (field n v) (field c t))
 
-  pub piece-fits : (b / low / span * span + u % span) * low + b % low < 2 ^ w
-  piece-fits = subst (λ (k : ℕ). (b / low / span * span + u % span) * low + b % low < 2 ^ k) e (whole-most j n c b u low span el es inside)
+-- ---- a byte of a slice: its bits are where the whole has them, and what is written to it too
 
-  pub piece-written : field w ((b / low / span * span + u % span) * low + b % low) ≡ splice (field w b) j (field n u)
-  piece-written =
-      subst (λ (k : ℕ). field k ((b / low / span * span + u % span) * low + b % low) ≡ splice (field k b) j (field n u)) e
-      (written j n c b u low span el es inside)
+pub byte-bits : (xs : List ℕ) (k j n : ℕ) → k < length xs → j + n ≤ 8 → part (k * 8 + j) n (bitsOf xs) ≡ part j n (field 8 (getD xs k 0))
+byte-bits xs k j n h hn =
+    let b : List ℕ = field 8 (getD xs k 0) in
+    let p : List ℕ = bitsOf (take k xs) in
+    let s : List ℕ = bitsOf (drop (suc k) xs) in
+    let lb : j + n ≤ length b = omega (arith, field-length 8 (getD xs k 0)) in
+    ap₂ (λ (i : ℕ) (l : List ℕ). take n (drop (i + j) l)) (sym (bitsOf-front xs k (omega arith))) (bitsOf-at xs k h)
+    ∙ ap (take n) (drop-append-add p (b ++ s) j ∙ drop-append-le j b s (omega arith))
+    ∙ take-append-le n (drop j b) s (omega (arith, length-drop j b))
 
-  pub piece-read : field n (b / low % span) ≡ part j n (field w b)
-  piece-read = rw (el, es) (field-mod n (b / 2 ^ c) ∙ sym (field-at j n c b) ∙ ap (λ (k : ℕ). part j n (field k b)) e)
+byte-written : (xs : List ℕ) (k r : ℕ) → k < length xs → bitsOf (set xs k r) ≡ splice (bitsOf xs) (k * 8) (field 8 r)
+byte-written xs k r h =
+    let b : ℕ = getD xs k 0 in
+    bitsOf-set xs k r h
+    ∙ sym (ap (λ (l : List ℕ). splice l (k * 8) (field 8 r)) (bitsOf-at xs k h)
+    ∙ splice-mid (bitsOf (take k xs)) (field 8 b) (bitsOf (drop (suc k) xs)) (field 8 r) (k * 8) (bitsOf-front xs k (omega arith)) (field-length 8 b ∙ sym (field-length 8 r)))
 
--- a byte's bits are where the whole has them
-byte-place : (pos : ℕ) (xs : List ℕ) → pos / 8 < length xs → length (bitsOf (take (pos / 8) xs)) + pos % 8 ≡ pos
-byte-place pos xs h = omega (arith, bitsOf-front xs (pos / 8) (omega arith))
+-- ---- a turn of the loop that writes: one byte more, before byte i, from which the low d bits of v are written
+pub put-more : (xs l : List ℕ) (i d v : ℕ) → 0 < i → i ≤ length xs → i * 8 + d ≤ length l → bitsOf xs ≡ splice l (i * 8) (field d v)
+    → bitsOf (set xs (i - 1) (v / 2 ^ d % 2 ^ 8)) ≡ splice l ((i - 1) * 8) (field (8 + d) v)
+put-more xs l i d v hi h hd ex =
+    let k : ℕ = i - 1 in
+    let u : ℕ = v / 2 ^ d in
+    let ei : i * 8 ≡ k * 8 + length (field 8 u) = omega (arith, field-length 8 u) in
+    byte-written xs k (u % 2 ^ 8) (omega arith)
+    ∙ ap₂ (λ (m f : List ℕ). splice m (k * 8) f) (ex ∙ ap (λ (n : ℕ). splice l n (field d v)) ei) (field-mod 8 u)
+    ∙ splice-before l (k * 8) (field 8 u) (field d v) (omega (arith, field-length 8 u, field-length d v))
+    ∙ ap (splice l (k * 8)) (sym (field-split 8 d v))
 
--- ---- a turn of the loop that writes
-
-pub put-piece : (xs : List ℕ) (pos n r u : ℕ) → pos / 8 < length xs → pos % 8 + n ≤ 8
-    → field 8 r ≡ splice (field 8 (getD xs (pos / 8) 0)) (pos % 8) (field n u)
-    → bitsOf (set xs (pos / 8) r) ≡ splice (bitsOf xs) pos (field n u)
-put-piece xs pos n r u h hn e =
-    let b : ℕ = getD xs (pos / 8) 0 in
-    let p : List ℕ = bitsOf (take (pos / 8) xs) in
-    let s : List ℕ = bitsOf (drop (suc (pos / 8)) xs) in
-    bitsOf-set xs (pos / 8) r h
-    ∙ ap (λ (l : List ℕ). p ++ (l ++ s)) e
-    ∙ sym (splice-inside p (field 8 b) s (pos % 8) (field n u) (omega (arith, field-length n u, field-length 8 b)))
-    ∙ ap₂ (λ (l : List ℕ) (k : ℕ). splice l k (field n u)) (sym (bitsOf-at xs (pos / 8) h)) (byte-place pos xs h)
-
--- a field and a piece beside it are a wider field
-field-more : (d n m v : ℕ) → field d (v / 2 ^ (m + n)) ++ field n (v / 2 ^ m) ≡ field (d + n) (v / 2 ^ m)
-field-more d n m v = sym (field-split d n (v / 2 ^ m) ∙ ap (λ (x : ℕ). field d x ++ field n (v / 2 ^ m)) (shr-shr v m n))
-
-pub put-more : (xs ys l : List ℕ) (at pos d n m v : ℕ) → at + d + n ≤ length l → pos ≡ at + d
-    → bitsOf xs ≡ splice l at (field d (v / 2 ^ (m + n)))
-    → bitsOf ys ≡ splice (bitsOf xs) pos (field n (v / 2 ^ m))
-    → bitsOf ys ≡ splice l at (field (d + n) (v / 2 ^ m))
-put-more xs ys l at pos d n m v h ep ex ey =
-    let f : List ℕ = field d (v / 2 ^ (m + n)) in
-    let lf : pos ≡ at + length f = omega (arith, field-length d (v / 2 ^ (m + n))) in
-    ey ∙ ap₂ (λ (k : List ℕ) (i : ℕ). splice k i (field n (v / 2 ^ m))) ex lf
-    ∙ splice-beside l at f (field n (v / 2 ^ m)) (omega arith)
-    ∙ ap (splice l at) (field-more d n m v)
-
--- ---- a turn of the loop that reads
-
-pub get-piece : (xs : List ℕ) (pos n r : ℕ) → pos / 8 < length xs → pos % 8 + n ≤ 8
-    → field n r ≡ part (pos % 8) n (field 8 (getD xs (pos / 8) 0))
-    → field n r ≡ part pos n (bitsOf xs)
-get-piece xs pos n r h hn e =
-    let b : ℕ = getD xs (pos / 8) 0 in
-    let p : List ℕ = bitsOf (take (pos / 8) xs) in
-    let s : List ℕ = bitsOf (drop (suc (pos / 8)) xs) in
-    let lb : pos % 8 + n ≤ length (field 8 b) = omega (arith, field-length 8 b) in
-    e ∙ sym (ap₂ (λ (k : ℕ) (l : List ℕ). take n (drop k l)) (sym (byte-place pos xs h)) (bitsOf-at xs (pos / 8) h)
-    ∙ ap (take n) (drop-append-add p (field 8 b ++ s) (pos % 8) ∙ drop-append-le (pos % 8) (field 8 b) s (omega arith))
-    ∙ take-append-le n (drop (pos % 8) (field 8 b)) s (omega (arith, length-drop (pos % 8) (field 8 b))))
-
+-- ---- a turn of the loop that reads: a number of n bits behind one of d bits
 pub get-more : (l : List ℕ) (at pos d n v r : ℕ) → pos ≡ at + d → r < 2 ^ n
     → field d v ≡ part at d l → field n r ≡ part pos n l
     → field (d + n) (v * 2 ^ n + r) ≡ part at (d + n) l
@@ -110,5 +80,20 @@ get-more l at pos d n v r ep hr ea er =
     ∙ ap₂ (λ (a b : List ℕ). a ++ b) ea (er ∙ ap (take n) (ap (λ (k : ℕ). drop k l) ep ∙ sym (drop-drop d at l)))
     ∙ sym (take-add d n (drop at l))
 
-pub get-fits : (d n v r : ℕ) {p : ℕ} → p ≡ 2 ^ n → v < 2 ^ d → r < 2 ^ n → v * p + r < 2 ^ (d + n)
-get-fits d n v r ep hv hr = rw (ep, pow-add 2 d n) (digits-lt hv hr)
+pub get-fits : (d n v r : ℕ) → v < 2 ^ d → r < 2 ^ n → v * 2 ^ n + r < 2 ^ (d + n)
+get-fits d n v r hv hr = rw (pow-add 2 d n) (digits-lt hv hr)
+
+-- ---- the covered bytes, with the bits beside the field as they stood, are the field written
+pub field-covered : (xs : List ℕ) (from last j n c v r : ℕ) → from < length xs → last < length xs → j ≤ 8 → c ≤ 8 → from * 8 + j + n + c ≡ last * 8 + 8
+    → field (j + n + c) r ≡ part 0 j (field 8 (getD xs from 0)) ++ (field n v ++ part (8 - c) c (field 8 (getD xs last 0)))
+    → splice (bitsOf xs) (from * 8) (field (j + n + c) r) ≡ splice (bitsOf xs) (from * 8 + j) (field n v)
+field-covered xs from last j n c v r hf hl hj hc e er =
+    let l : List ℕ = bitsOf xs in
+    let f : List ℕ = field n v in
+    let ef : part 0 j (field 8 (getD xs from 0)) ≡ part (from * 8) j l =
+    sym (byte-bits xs from 0 j hf (omega arith)) ∙ ap (λ (i : ℕ). part i j l) (add-zero (from * 8)) in
+    let es : last * 8 + (8 - c) ≡ from * 8 + j + length f = omega (arith, field-length n v) in
+    let el : part (8 - c) c (field 8 (getD xs last 0)) ≡ part (from * 8 + j + length f) c l =
+    sym (byte-bits xs last (8 - c) c hl (omega arith)) ∙ ap (λ (i : ℕ). part i c l) es in
+    ap (splice l (from * 8)) (er ∙ ap₂ (λ (p s : List ℕ). p ++ (f ++ s)) ef el)
+    ∙ splice-within l (from * 8) j c f (omega (arith, field-length n v, bitsOf-length xs))

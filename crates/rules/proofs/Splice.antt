@@ -1,16 +1,26 @@
 -- The laws of `splice`: what a block written over a list leaves, and how writes over and beside each other join. They serve cells, history and
 -- images alike. Assumes nothing.
-use Prim.Native.Nat.{ℕ, _+_, _≤_, min}
-use mathlib.Core.Path.{_≡_, sym, ap, ap₂, _∙_}
-use mathlib.Core.List.{List, [], _++_, append-assoc}
+use Prim.Native.Nat.{ℕ, zero, suc, _+_, _≤_, min}
+use mathlib.Core.Path.{_≡_, refl, sym, ap, ap₂, _∙_}
+use mathlib.Core.List.{List, [], _∷_, _++_, append-assoc}
 use native.Mathlib.Nat.{add-zero}
 use native.Mathlib.Omega.{arith}
 use lib.ListN.{length, take, drop, length-append, length-take, length-drop, take-append-drop}
-use lib.Seq.{sets, sets-eq, take-at, drop-at, drop-drop, length-take-le, take-append-le, drop-append-le, take-append-add, drop-append-add}
+use lib.Seq.{sets, sets-eq, take-at, drop-at, drop-drop, length-take-le, take-append-le, drop-append-add, take-take}
 use Rattle.rules.specs.Lists.{part, splice}
 
 pub length-part : (i n : ℕ) (l : List ℕ) → i + n ≤ length l → length (part i n l) ≡ n
 length-part i n l h = length-take n (drop i l) ∙ ap (λ (k : ℕ). min n k) (length-drop i l) ∙ omega arith
+
+-- a part of a part
+pub part-part : (i j n m : ℕ) (l : List ℕ) → j + m ≤ n → part j m (part i n l) ≡ part (i + j) m l
+part-part i j n m l h = inner j n (drop i l) h ∙ ap (take m) (drop-drop j i l)
+  where
+    inner : (j n : ℕ) (l : List ℕ) → j + m ≤ n → part j m (take n l) ≡ part j m l
+    inner zero n l h = take-take m n l (omega arith)
+    inner (suc j) zero l h = absurd (let z : ⊥ = omega arith in z)
+    inner (suc j) (suc n) [] h = refl
+    inner (suc j) (suc n) (x ∷ l) h = inner j n l (omega arith)
 
 -- ---- what stands before, at and behind the place
 module _ (l : List ℕ) (i : ℕ) (ws : List ℕ) (h : i + length ws ≤ length l) where
@@ -68,20 +78,35 @@ splice-beside l i f g h =
     ∙ append-assoc (take i l) f (g ++ drop (i + length (f ++ g)) l)
     ∙ ap (λ (p : List ℕ). take i l ++ p) (sym (append-assoc f g (drop (i + length (f ++ g)) l)))
 
+-- the one that stands before, written behind the other
+pub splice-before : (l : List ℕ) (i : ℕ) (f g : List ℕ) → i + length f + length g ≤ length l → splice (splice l (i + length f) g) i f ≡ splice l i (f ++ g)
+splice-before l i f g h =
+    let k : ℕ = i + length f in
+    let e : k + length g ≡ i + length (f ++ g) = omega (arith, length-append f g) in
+    ap₂ (λ (p q : List ℕ). p ++ (f ++ q))
+    (take-append-le i (take k l) (g ++ drop (k + length g) l) (omega (arith, length-take-le k l (omega arith))) ∙ take-take i k l (omega arith))
+    (drop-splice l k g h ∙ ap (λ (n : ℕ). g ++ drop n l) e)
+    ∙ ap (λ (p : List ℕ). take i l ++ p) (sym (append-assoc f g (drop (i + length (f ++ g)) l)))
+
+-- written together with what stands before it and behind it
+pub splice-within : (l : List ℕ) (i j n : ℕ) (f : List ℕ) → i + j + length f + n ≤ length l
+    → splice l i (part i j l ++ (f ++ part (i + j + length f) n l)) ≡ splice l (i + j) f
+splice-within l i j n f h =
+    let k : ℕ = i + j + length f in
+    let p : List ℕ = part i j l in
+    let lp : length p ≡ j = length-part i j l (omega arith) in
+    let hf : i + j + length f ≤ length l = omega arith in
+    sym (splice-beside l i p (f ++ part k n l) (omega (arith, lp)))
+    ∙ ap₂ (λ (m : List ℕ) (c : ℕ). splice m (i + c) (f ++ part k n l)) (splice-same l i j (omega arith)) lp
+    ∙ sym (splice-beside l (i + j) f (part k n l) hf)
+    ∙ ap (λ (m : List ℕ). splice (splice l (i + j) f) k (take n m)) (sym (rest-splice l (i + j) f hf (length f) refl))
+    ∙ splice-same (splice l (i + j) f) k n (omega (arith, length-splice l (i + j) f hf))
+
 -- nothing written
 pub splice-none : (l : List ℕ) (i : ℕ) → splice l i [] ≡ l
 splice-none l i = ap (λ (n : ℕ). take i l ++ drop n l) (add-zero i) ∙ take-append-drop i l
 
--- ---- a write that lies inside a part
-
-pub splice-inside : (p x s : List ℕ) (j : ℕ) (f : List ℕ) → j + length f ≤ length x → splice (p ++ (x ++ s)) (length p + j) f ≡ p ++ (splice x j f ++ s)
-splice-inside p x s j f h =
-    let lb : length p + j + length f ≡ length p + (j + length f) = omega arith in
-    ap₂ (λ (a b : List ℕ). a ++ (f ++ b))
-    (take-append-add p (x ++ s) j ∙ ap (λ (l : List ℕ). p ++ l) (take-append-le j x s (omega arith)))
-    (ap (λ (n : ℕ). drop n (p ++ (x ++ s))) lb ∙ drop-append-add p (x ++ s) (j + length f) ∙ drop-append-le (j + length f) x s h)
-    ∙ simp append-assoc
-
+-- ---- a write in the middle
 pub splice-mid : (p x s f : List ℕ) (i : ℕ) → length p ≡ i → length x ≡ length f → splice (p ++ (x ++ s)) i f ≡ p ++ (f ++ s)
 splice-mid p x s f i e h =
     ap₂ (λ (a b : List ℕ). a ++ (f ++ b)) (take-at p (x ++ s) i e)

@@ -31,7 +31,7 @@ returns c =
     let a = c .before .before .args in
     let e : a .j + a .n + (8 - a .j - a .n) ≡ 8 = omega arith in (
       subst (λ (k : ℕ). a .byte / c .before .power .result % c .power2 .result < k) (c .power2 .ensures .0) (mod-lt _ (c .power2 .ensures .1)),
-      piece-read 8 (a .j) (a .n) (8 - a .j - a .n) (a .byte) 0 _ _ e (c .before .power .ensures .0) (c .power2 .ensures .0) (c .before .before .fits .byte .fits),
+      piece-read (a .j) (a .n) (8 - a .j - a .n) (a .byte) e (c .before .power .ensures .0) (c .power2 .ensures .0),
     )
 
 pub piece-of-spec : {M : Type 1} → statement M

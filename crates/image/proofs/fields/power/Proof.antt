@@ -7,17 +7,14 @@ use borrow.Author.Needs.{needs}
 use Rattle.image.proofs.fields.power.Statement.{statement}
 use Rattle.image.proofs.fields.power.Tie as tie
 
-cast-result : tie.Need-cast-result
-cast-result c = search needs
-
 shl-result : tie.Need-shl-result
 shl-result c = search needs
 
 returns : tie.Need-returns
 returns c =
-    let e : 1 * 2 ^ (c .args .k) % 2 ^ 32 ≡ 2 ^ (c .args .k) =
-    ap (λ (n : ℕ). n % 2 ^ 32) (one-mul (2 ^ (c .args .k))) ∙ mod-eq-of-lt (pow-lt (c .pre)) in
+    let e : 1 * 2 ^ (c .args .k) % 2 ^ 64 ≡ 2 ^ (c .args .k) =
+    ap (λ (n : ℕ). n % 2 ^ 64) (one-mul (2 ^ (c .args .k))) ∙ mod-eq-of-lt (pow-lt (c .pre)) in
     (e, subst (λ (n : ℕ). 0 < n) (sym e) (pow-pos (c .args .k)))
 
 pub power-spec : {M : Type 1} → statement M
-power-spec = tie.close (tie.spec cast-result shl-result returns)
+power-spec = tie.close (tie.spec shl-result returns)
