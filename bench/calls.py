@@ -67,11 +67,11 @@ class Script:
         self.call_reading("assemble", source, table, told, number)
         return number, table, told
 
-    def unpack(self, image, places=PLACES, told_length=1):
+    def unpack(self, image, places=PLACES, told_length=1, word="unpack"):
         table, told, number = marked(places, 8), marked(told_length, 8), 31
         if told_length == 1:
             number, *told = sam.unpack(image, table)
-        self.call_reading("unpack", image, table, told, number)
+        self.call_reading(word, image, table, told, number)
         return number, table, told
 
     def call_reading(self, name, data, table, told, number):
@@ -86,8 +86,8 @@ class Script:
     def list(self, program, size=TEXT_BYTES, told_length=1):
         return self.call_writing("list", sam.list_program, program, size, told_length)
 
-    def pack(self, program, size=IMAGE_BYTES, told_length=1):
-        return self.call_writing("pack", sam.pack, program, size, told_length)
+    def pack(self, program, size=IMAGE_BYTES, told_length=1, word="pack"):
+        return self.call_writing(word, sam.pack, program, size, told_length)
 
     def call_writing(self, name, writer, program, size, told_length):
         output, told, number = bytearray([MARK] * size), marked(told_length, 8), 31

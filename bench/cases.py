@@ -96,18 +96,28 @@ def damaged_image(chooser, image):
     return bytes(image)
 
 
-def image_case(chooser, script):
-    """Pack, unpack, and unpack a damaged image; list and pack a damaged table."""
+def packed_program(chooser):
+    """A program to be packed, sometimes full, sometimes damaged."""
     program = full_program(chooser) if chooser.randrange(40) == 0 else made_program(chooser)
-    if chooser.randrange(4) == 0:
-        program = damaged_program(chooser, program)
-    script.program(program)
+    return damaged_program(chooser, program) if chooser.randrange(4) == 0 else program
+
+
+def there_and_back(chooser, script, program, pack="pack", unpack="unpack"):
+    """Pack, unpack, and unpack a damaged image."""
     size = chooser.choice([IMAGE_BYTES] * 30 + [0, IMAGE_BYTES - 1, IMAGE_BYTES + 1])
-    image = script.pack(program, size, chooser.choice([1] * 30 + [0, 2]))
-    script.list(program, chooser.choice([TEXT_BYTES] * 30 + [TEXT_BYTES - 1]))
-    script.unpack(image, chooser.choice([PLACES] * 30 + [0, 1023, 1025]), chooser.choice([1] * 30 + [0, 2]))
+    image = script.pack(program, size, chooser.choice([1] * 30 + [0, 2]), pack)
+    places, told_length = chooser.choice([PLACES] * 30 + [0, 1023, 1025]), chooser.choice([1] * 30 + [0, 2])
+    script.unpack(image, places, told_length, unpack)
     for _ in range(3):
-        script.unpack(damaged_image(chooser, image))
+        script.unpack(damaged_image(chooser, image), word=unpack)
+
+
+def image_case(chooser, script):
+    """The same table listed, packed and unpacked."""
+    program = packed_program(chooser)
+    script.program(program)
+    script.list(program, chooser.choice([TEXT_BYTES] * 30 + [TEXT_BYTES - 1]))
+    there_and_back(chooser, script, program)
 
 
 # ---- series of calls
@@ -353,7 +363,7 @@ def instruction_case(chooser, script):
     step_and_back(script, *any_single(chooser))
 
 
-# ---- the direct run in C, which the speeds are measured against
+# ---- the direct run, packer and unpacker in C, which the speeds are measured against
 
 
 def plain_single(script, program, state):
@@ -376,12 +386,21 @@ def plain_series(chooser, script):
         lent.run(chooser.choice([0, 1, 2, 5, 200, 1000, 1000001]), chooser.choice([1] * 20 + [2]), word="plain")
 
 
+def plain_image(chooser, script):
+    program = packed_program(chooser)
+    script.program(program)
+    there_and_back(chooser, script, program, "plain_pack", "plain_unpack")
+
+
 def plain_case(chooser, script):
-    """Such runs, or as often a single instruction."""
-    if chooser.randrange(2) == 0:
+    """Such runs, as often a single instruction, and sometimes an image."""
+    kind = chooser.randrange(5)
+    if kind < 2:
         plain_series(chooser, script)
-    else:
+    elif kind < 4:
         plain_single(script, *any_single(chooser))
+    else:
+        plain_image(chooser, script)
 
 
 # What a family has before its cases are drawn.

@@ -7,6 +7,7 @@
 #include <stdlib.h>
 #include <string.h>
 
+#include "calls.h"
 #include "plain.h"
 #include "sam.h"
 
@@ -136,9 +137,6 @@ static void print_end(void) {
     check_guards(&table, "table");
 }
 
-typedef uint32_t reading_call(const uint8_t *, size_t, uint64_t *, size_t, uint64_t *, size_t);
-typedef uint32_t writing_call(const uint64_t *, size_t, uint64_t, uint8_t *, size_t, uint64_t *, size_t);
-
 /* Bytes to a table: assemble and unpack. */
 static void call_reading(reading_call *call) {
     struct lent made = {.width = 8};
@@ -178,9 +176,6 @@ static void print_machine(uint32_t number) {
     print_end();
 }
 
-typedef uint32_t machine_call(const uint64_t *, size_t, uint64_t, uint64_t *, size_t, uint32_t *, size_t, uint8_t *,
-                              size_t, uint64_t *, size_t);
-
 static void call_machine(machine_call *call) {
     lend(&told, 0);
     print_machine(call(data(&table), table.count, length, data(&registers), registers.count, data(&bits), bits.count,
@@ -209,6 +204,8 @@ static void obey(const char *word) {
     else if (strcmp(word, "back") == 0) call_machine(sam_step_back);
     else if (strcmp(word, "run") == 0) call_run(sam_run);
     else if (strcmp(word, "plain") == 0) call_run(plain_run);
+    else if (strcmp(word, "plain_pack") == 0) call_writing(plain_pack);
+    else if (strcmp(word, "plain_unpack") == 0) call_reading(plain_unpack);
     else die("no such word", word);
 }
 

@@ -6,14 +6,8 @@
 #include <stdbool.h>
 #include <string.h>
 
+#include "plain_table.h"
 #include "sam.h"
-
-enum code {
-    STOP, PUSHIMM, PUSHIMMF, DUP, SWAP, ADD, SUB, TIMES, DIV, MOD, ADDF, SUBF, TIMESF, DIVF, AND, OR, NAND, NOR, XOR,
-    NOT, BITAND, BITOR, BITNAND, BITNOR, BITXOR, BITNOT, CMP, CMPF, GREATER, LESS, EQUAL, ISNIL, ISPOS, ISNEG, PUSHSP,
-    POPSP, PUSHFBR, POPFBR, LINK, ADDSP, PUSHIND, STOREIND, PUSHOFF, STOREOFF, JUMP, JUMPC, JUMPIND, JSR, JSRIND,
-    PUSHIMMPA, CODES
-};
 
 struct machine {
     const uint64_t *table;
@@ -26,27 +20,6 @@ struct machine {
 struct cell { uint32_t bits; uint8_t tag; };
 
 /* ---- 10 */
-
-static bool operand_sound(uint64_t code, uint32_t operand, uint64_t length) {
-    int32_t number = (int32_t)operand;
-    switch (code) {
-    case PUSHIMM: case PUSHIMMF: return true;
-    case ADDSP: case PUSHOFF: case STOREOFF: return number >= -999 && number <= 999;
-    case JUMP: case JUMPC: case JSR: case PUSHIMMPA: return operand <= length;
-    default: return operand == 0;
-    }
-}
-
-static bool table_sound(const uint64_t *table, size_t places, uint64_t length) {
-    if (places != SAM_TABLE_PLACES || length > SAM_TABLE_PLACES) return false;
-    for (uint64_t i = 0; i < length; i++) {
-        if (table[i] >> 32 >= CODES || !operand_sound(table[i] >> 32, (uint32_t)table[i], length)) return false;
-    }
-    for (uint64_t i = length; i < SAM_TABLE_PLACES; i++) {
-        if (table[i] != 0) return false;
-    }
-    return true;
-}
 
 static bool registers_sound(const struct machine *m) {
     return m->n >= 1 && m->n <= SAM_CELL_LIMIT && m->h <= SAM_HISTORY_LIMIT && m->sp < m->n && m->fbr < m->n &&

@@ -39,7 +39,7 @@ $RUN "$out/test_sam_c" >"$out/test_sam_c.out" || { grep -v '^ok' "$out/test_sam_
 tail -n 1 "$out/test_sam_c.out"
 
 echo "bench: every call compared"
-$CC $FLAGS -Iinclude -Ibench bench/driver.c bench/plain.c "$library" -o "$out/driver"
+$CC $FLAGS -Iinclude -Ibench bench/driver.c bench/plain.c bench/plain_image.c "$library" -o "$out/driver"
 if [ -x "$console" ]; then
     python3 bench/compare.py --save "$out/difference" --console "$RUN_KIT $console" "$RUN $out/driver"
 else

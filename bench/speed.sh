@@ -1,52 +1,76 @@
 #!/bin/sh
-# Sets the proved run beside the direct one of plain.c: bench/speed.sh [STEPS] prints millions of steps a second,
-# bench/speed.sh --count machine instructions a step, which have no noise but need valgrind. plain.c is compiled by gcc
-# -O2 and, where at hand, by clang -O3. Needs target/staticlib/libsam_c.a (`rt staticlib sam_c`). On another processor
-# than x86-64 both run in the same emulator, only the ratio says something, and nothing can be counted.
+# Sets the proved run, packer and unpacker beside the direct ones of plain.c and plain_image.c: bench/speed.sh [STEPS]
+# prints millions of steps a second and nanoseconds an instruction packed, bench/speed.sh --count machine instructions,
+# which have no noise but need valgrind. The direct ones are compiled by gcc -O2 and, where at hand, by clang -O3. Needs
+# target/staticlib/libsam_c.a (`rt staticlib sam_c`). On another processor than x86-64 all run in the same emulator,
+# only the ratios say something, and nothing can be counted.
 set -eu
 cd "$(dirname "$0")/.."
 . bench/toolchain.sh
 library=target/staticlib/libsam_c.a
-limit=2500 # steps of a counted run: no record is above three places, so a history of 8,192 holds them
-runs=10    # COUNTED_RUNS of speed.c
+limit=2500  # steps of a counted run: no record is above three places, so a history of 8,192 holds them
+runs=10     # COUNTED_RUNS of speed.c
+calls=10    # counted calls of a packer or unpacker
+places=1024 # instructions of a full program
 
 skip() {
     echo "speed: skipped: $1"
     exit 0
 }
 
-# The instructions that speed makes for SIDE NAME H LIMIT.
+# The machine instructions that a program makes.
 instructions() {
-    valgrind --tool=cachegrind --cache-sim=no --cachegrind-out-file=/dev/null "$speed" "$@" 2>&1 |
+    valgrind --tool=cachegrind --cache-sim=no --cachegrind-out-file=/dev/null "$@" 2>&1 |
         sed -n 's/.*I *refs: *//p' | tr -d ,
 }
 
-# Instructions a step: those of runs with a limit, less those of as many runs with limit 0.
+# Instructions a step of SIDE NAME H: those of runs with a limit, less those of as many runs with limit 0.
 a_step() {
-    with=$(instructions "$1" "$2" "$3" "$limit")
-    without=$(instructions "$1" "$2" "$3" 0)
+    with=$(instructions "$speed" "$@" "$limit")
+    without=$(instructions "$speed" "$@" 0)
     awk "BEGIN { printf \"%.1f\", ($with - $without) / ($limit * $runs) }"
+}
+
+# Instructions for one of the program's of SIDE NAME: those of calls, less those of none.
+a_place() {
+    with=$(instructions "$image_speed" "$@" "$calls")
+    without=$(instructions "$image_speed" "$@" 0)
+    awk "BEGIN { printf \"%.1f\", ($with - $without) / ($calls * $places) }"
+}
+
+print_counts() {
+    awk -v name="$1" -v sam="$2" -v plain="$3" 'BEGIN {
+        printf "%-23s   sam %8.1f   plain %8.1f   sam/plain %.2f\n", name, sam, plain, sam / plain }'
 }
 
 count_all() {
     echo "machine instructions a step, by valgrind"
     for h in 0 8192; do
         "$speed" names | while read -r name; do
-            sam=$(a_step sam "$name" "$h")
-            plain=$(a_step plain "$name" "$h")
-            awk -v name="$name" -v h="$h" -v sam="$sam" -v plain="$plain" 'BEGIN {
-                printf "%-16s H %4d   sam %8.1f   plain %8.1f   sam/plain %.2f\n", name, h, sam, plain, sam / plain }'
+            line=$(printf '%-16s H %4d' "$name" "$h")
+            print_counts "$line" "$(a_step sam "$name" "$h")" "$(a_step plain "$name" "$h")"
         done
+    done
+    echo "machine instructions an instruction of a full program, by valgrind"
+    "$image_speed" names | while read -r name; do
+        print_counts "$name" "$(a_place sam "$name")" "$(a_place plain "$name")"
     done
 }
 
 # against COMPILER OPTION [STEPS]
 against() {
     speed=target/bench/speed-$(basename "$1")
+    image_speed=target/bench/image_speed-$(basename "$1")
     "$1" $FLAGS "$2" -Iinclude -Ibench bench/speed.c bench/plain.c "$library" -o "$speed"
-    echo "plain.c by $("$1" --version | head -n 1), $2:"
+    "$1" $FLAGS "$2" -Iinclude -Ibench bench/image_speed.c bench/plain_image.c "$library" -o "$image_speed"
+    echo "the direct ones by $("$1" --version | head -n 1), $2:"
     shift 2
-    if [ "${1:-}" = --count ]; then count_all; else $RUN "$speed" "$@"; fi
+    if [ "${1:-}" = --count ]; then
+        count_all
+    else
+        $RUN "$speed" "$@"
+        $RUN "$image_speed"
+    fi
 }
 
 [ -n "$CC" ] || skip "$WHY"
