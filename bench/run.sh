@@ -38,6 +38,10 @@ $CC $FLAGS -Iinclude bench/test_sam_c.c "$library" -o "$out/test_sam_c"
 $RUN "$out/test_sam_c" >"$out/test_sam_c.out" || { grep -v '^ok' "$out/test_sam_c.out"; exit 1; }
 tail -n 1 "$out/test_sam_c.out"
 
+echo "bench: the bytes of stack that each call uses"
+$CC $FLAGS -Iinclude bench/stack.c "$library" -o "$out/stack"
+$RUN "$out/stack"
+
 echo "bench: every call compared"
 $CC $FLAGS -Iinclude -Ibench bench/driver.c bench/plain.c bench/plain_image.c "$library" -o "$out/driver"
 if [ -x "$console" ]; then

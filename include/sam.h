@@ -52,6 +52,20 @@ enum {
     SAM_RUN_LIMIT = 1000000    /* steps of one run */
 };
 
+/* Bytes of stack that a call needs at most, its arguments on the stack and its return address among them, whatever the
+ * program: bounds for the library as it is built for x86-64, kept by measurement and not by proof (docs/PERFORMANCE.md,
+ * "The stack"). Assemble keeps its 256 labels there, 2,048 bytes; no call copies what it is lent. */
+enum {
+    SAM_ASSEMBLE_STACK = 3072,
+    SAM_LIST_STACK = 1024,
+    SAM_PACK_STACK = 256,
+    SAM_UNPACK_STACK = 256,
+    SAM_RESET_STACK = 256,
+    SAM_STEP_STACK = 768,
+    SAM_STEP_BACK_STACK = 512,
+    SAM_RUN_STACK = 768
+};
+
 /* The registers are a lent slice of seven. Registers of another length are 10 and change nothing. */
 enum { SAM_N, SAM_H_PLACES, SAM_PC, SAM_SP, SAM_FBR, SAM_HALT, SAM_U, SAM_REGISTERS };
 

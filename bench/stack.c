@@ -1,0 +1,182 @@
+/* The bytes of stack that each call of sam.h uses, for an empty program and for one of 1,024 instructions.
+ *
+ * A function that makes the call and nothing else is run on a stack of its own that was painted before, and the lowest
+ * byte that lost its paint tells how far down it went. What an empty function takes there is not counted; the call's
+ * arguments on the stack and its return address are. It fails where a call uses more than sam.h says, and where
+ * sam_pack uses more for the long program than for the empty one. */
+#define _XOPEN_SOURCE 600
+#include <stdbool.h>
+#include <stdio.h>
+#include <stdlib.h>
+#include <string.h>
+#include <ucontext.h>
+
+#include "sam.h"
+
+static void die(const char *why) {
+    fprintf(stderr, "stack: cannot be measured: %s\n", why);
+    exit(1);
+}
+
+/* ---- what is lent to the calls */
+
+enum { BLOCKS = SAM_TABLE_PLACES / 4, STEPS = 1000 };
+
+static char source[SAM_SOURCE_LIMIT];
+static size_t source_len, image_len;
+static uint8_t text[SAM_TEXT_BYTES], image[SAM_IMAGE_BYTES];
+static uint64_t table[SAM_TABLE_PLACES], length, told[SAM_ASSEMBLE_TOLD];
+static uint64_t registers[SAM_REGISTERS], history[SAM_HISTORY_LIMIT];
+static uint32_t bits[SAM_CELL_LIMIT];
+static uint8_t tags[SAM_CELL_LIMIT];
+
+static uint32_t number; /* what the last call gave */
+
+static void assemble(void) {
+    number = sam_assemble((const uint8_t *)source, source_len, table, SAM_TABLE_PLACES, told, SAM_ASSEMBLE_TOLD);
+}
+
+static void list(void) { number = sam_list(table, SAM_TABLE_PLACES, length, text, SAM_TEXT_BYTES, told, 1); }
+
+static void pack(void) { number = sam_pack(table, SAM_TABLE_PLACES, length, image, SAM_IMAGE_BYTES, told, 1); }
+
+static void unpack(void) { number = sam_unpack(image, image_len, table, SAM_TABLE_PLACES, told, 1); }
+
+static void reset(void) {
+    number = sam_reset(table, SAM_TABLE_PLACES, length, registers, SAM_REGISTERS, bits, SAM_CELL_LIMIT, tags,
+                       SAM_CELL_LIMIT, history, SAM_HISTORY_LIMIT);
+}
+
+static void step(void) {
+    number = sam_step(table, SAM_TABLE_PLACES, length, registers, SAM_REGISTERS, bits, SAM_CELL_LIMIT, tags,
+                      SAM_CELL_LIMIT, history, SAM_HISTORY_LIMIT);
+}
+
+static void step_back(void) {
+    number = sam_step_back(table, SAM_TABLE_PLACES, length, registers, SAM_REGISTERS, bits, SAM_CELL_LIMIT, tags,
+                           SAM_CELL_LIMIT, history, SAM_HISTORY_LIMIT);
+}
+
+static void run(void) {
+    number = sam_run(table, SAM_TABLE_PLACES, length, STEPS, registers, SAM_REGISTERS, bits, SAM_CELL_LIMIT, tags,
+                     SAM_CELL_LIMIT, history, SAM_HISTORY_LIMIT, told, 1);
+}
+
+/* What request c forbids, to see that the measurement finds it. */
+static void pack_by_a_copy(void) {
+    uint8_t copy[SAM_IMAGE_BYTES];
+    number = sam_pack(table, SAM_TABLE_PLACES, length, copy, sizeof copy, told, 1);
+    memcpy(image, copy, sizeof copy);
+}
+
+/* All 256 labels, every form of operand, the longest number; for ever in its first four instructions. */
+static void write_full_source(void) {
+    for (int i = 0; i < BLOCKS; i++) {
+        source_len += (size_t)sprintf(source + source_len,
+                                      "a%d: PUSHIMM -2147483648 PUSHIMMF #FFFFFFFF ADDSP -2 JUMP a%d\n", i, i);
+    }
+}
+
+/* A program, its image, and a machine that has made a step if there is one to make. */
+static void prepare(bool is_full) {
+    source_len = 0;
+    if (is_full) write_full_source();
+    assemble();
+    length = told[SAM_LENGTH];
+    if (number != 0 || length != (is_full ? SAM_TABLE_PLACES : 0)) die("the source was not assembled");
+    pack();
+    image_len = told[0];
+    reset();
+    step();
+}
+
+/* ---- the painted stack */
+
+enum { STACK_BYTES = 65536 };
+
+static unsigned char stack[STACK_BYTES];
+static unsigned char paint;
+static size_t untouched; /* bytes that kept their paint, from the stack's end */
+static void (*volatile made)(void);
+static ucontext_t outside, inside;
+
+/* Looks as soon as the call is made, before anything else uses the stack. */
+static void make_and_look(void) {
+    made();
+    untouched = 0;
+    while (untouched < STACK_BYTES && stack[untouched] == paint) untouched++;
+}
+
+static size_t depth_in(unsigned char colour, void (*call)(void)) {
+    paint = colour;
+    made = call;
+    memset(stack, paint, sizeof stack);
+    if (getcontext(&inside) != 0) die("no context");
+    inside.uc_stack.ss_sp = stack;
+    inside.uc_stack.ss_size = sizeof stack;
+    inside.uc_link = &outside;
+    makecontext(&inside, make_and_look, 0);
+    if (swapcontext(&outside, &inside) != 0) die("no context");
+    if (untouched == 0) die("a call needs more stack than there is");
+    return STACK_BYTES - untouched;
+}
+
+/* In two colours, since a call may write the paint's own byte. The first time the linker may look up memset there. */
+static size_t depth(bool is_full, void (*call)(void)) {
+    static const unsigned char colours[] = {0xA5, 0xA5, 0x5A};
+    size_t deepest = 0;
+    for (size_t i = 0; i < sizeof colours; i++) {
+        prepare(is_full);
+        size_t now = depth_in(colours[i], call);
+        if (i > 0 && now > deepest) deepest = now;
+    }
+    return deepest;
+}
+
+static void nothing(void) {}
+
+/* `number` is then the call's. */
+static size_t used(bool is_full, void (*call)(void)) {
+    size_t without = depth(is_full, nothing);
+    return depth(is_full, call) - without;
+}
+
+/* ---- the table */
+
+static const struct row {
+    const char *name;
+    void (*call)(void);
+    size_t most;          /* bytes, by sam.h */
+    uint32_t empty, full; /* the numbers that the call gives */
+} ROWS[] = {
+    {"assemble", assemble, SAM_ASSEMBLE_STACK, 0, 0},
+    {"list", list, SAM_LIST_STACK, 0, 0},
+    {"pack", pack, SAM_PACK_STACK, 0, 0},
+    {"unpack", unpack, SAM_UNPACK_STACK, 0, 0},
+    {"reset", reset, SAM_RESET_STACK, 0, 0},
+    {"step", step, SAM_STEP_STACK, 2, 0},
+    {"step back", step_back, SAM_STEP_BACK_STACK, 9, 0},
+    {"run", run, SAM_RUN_STACK, 2, 50},
+};
+
+/* The bytes of a call, which must give this number. */
+static size_t measured(const struct row *row, bool is_full, uint32_t expected) {
+    size_t bytes = used(is_full, row->call);
+    if (number != expected) die(row->name);
+    return bytes;
+}
+
+static bool is_within(const struct row *row) {
+    size_t empty = measured(row, false, row->empty), full = measured(row, true, row->full);
+    bool within = empty <= row->most && full <= row->most && (row->call != pack || full <= empty);
+    printf("%-10s %6zu %6zu %9zu%s\n", row->name, empty, full, row->most, within ? "" : "   TOO MUCH");
+    return within;
+}
+
+int main(void) {
+    bool within = true;
+    printf("stack      empty  1,024   at most\n");
+    for (size_t i = 0; i < sizeof ROWS / sizeof ROWS[0]; i++) within = is_within(&ROWS[i]) && within;
+    if (used(true, pack_by_a_copy) < SAM_IMAGE_BYTES) die("a copy of the image was not seen");
+    return within ? 0 : 1;
+}
