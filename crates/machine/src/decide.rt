@@ -29,7 +29,13 @@ fn on_pair(code: usize, r: Registers, vb: Cell, vt: Cell) -> Plan
     let b = vb.bits;
     let t = vt.bits;
     match code {
-        codes::SUB => families::on_sums(word::integers::minus(b, t), r, vb, vt),
+        codes::SUB => families::on_sums(
+            word::integers::minus(b, t),
+            word::integers::minus_in_word(b, t),
+            r,
+            vb,
+            vt,
+        ),
         codes::TIMES => families::on_ints(word::integers::times(b, t), r, vb, vt),
         codes::DIV => families::on_divides(word::integers::quotient(b, t), r, vb, vt),
         codes::MOD => families::on_divides(word::integers::remainder(b, t), r, vb, vt),
@@ -53,7 +59,13 @@ fn on_pair(code: usize, r: Registers, vb: Cell, vt: Cell) -> Plan
         codes::LESS => families::on_ints(word::tests::less(b, t), r, vb, vt),
         codes::EQUAL => families::on_equal(r, vb, vt),
         // what is left is ADD, by which loops count: the arm that is left is reached without the table of jumps
-        _ => families::on_sums(word::integers::plus(b, t), r, vb, vt),
+        _ => families::on_sums(
+            word::integers::plus(b, t),
+            word::integers::plus_in_word(b, t),
+            r,
+            vb,
+            vt,
+        ),
     }
 }
 

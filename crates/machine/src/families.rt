@@ -4,7 +4,8 @@ ghost use mathlib.Core.Path.{_≡_};
 ghost use Prim.Native.Nat.{_-_, _≤_};
 ghost use Rattle.rules.specs.declared.Decision.the-variants.{Does};
 ghost use mathlib.Core.Bool.{not};
-ghost use Rattle.rules.specs.Words.{bit, holds, bitNot, less};
+ghost use lib.IntN.{ℤ};
+ghost use Rattle.rules.specs.Words.{word, inWord, bit, holds, bitNot, less};
 ghost use Rattle.rules.specs.State.{Memory, cellAt};
 ghost use Rattle.rules.specs.Decide.{result, jumped, called, programAddress, onDup, onSwap, onSums, onInts, onDivides, onFloats, onCompareFloats, onOne, sameValue, agree, onEqual, onIsNil, onPopSp, onPopFbr, onJumpC, onJumpInd, onJsrInd};
 ghost use Rattle.machine.specs.Small.{Small};
@@ -12,6 +13,7 @@ ghost use Rattle.machine.specs.Plan.{planned, Means};
 use crate::addresses;
 use crate::cells::float_cell;
 use crate::cells::int_cell;
+use crate::cells::memory_cell;
 use crate::plans;
 use crate::plans::BAD_ADDRESS;
 use crate::plans::NO_RESULT;
@@ -43,24 +45,6 @@ pub(crate) fn on_swap(r: Registers, top: Cell) -> Plan
     plans::swapped(r, top)
 }
 
-// Two INTs, or an MA below an INT; the result has the tag of the value below.
-pub(crate) fn on_sums(v: u32, r: Registers, below: Cell, top: Cell) -> Plan
-    requires { ⌜ Small r × (2 ≤ r .sp) ⌝ }
-    ensures { λ d. ⌜ Means r d (onSums v r below top) ⌝ }
-{
-    let tag = below.tag;
-    if top.tag != tags::INT {
-        return WRONG_TAG;
-    }
-    if tag == tags::INT {
-        return plans::result(r, 2, Cell { bits: v, tag });
-    }
-    if tag == tags::MA {
-        return plans::result(r, 2, Cell { bits: v, tag });
-    }
-    WRONG_TAG
-}
-
 // Two INTs, and an INT as the result.
 pub(crate) fn on_ints(v: u32, r: Registers, below: Cell, top: Cell) -> Plan
     requires { ⌜ Small r × (2 ≤ r .sp) ⌝ }
@@ -73,6 +57,27 @@ pub(crate) fn on_ints(v: u32, r: Registers, below: Cell, top: Cell) -> Plan
         return WRONG_TAG;
     }
     plans::result(r, 2, int_cell(v))
+}
+
+// Two INTs, or an MA below an INT. The bits are those of an exact result, and `in_word` tells whether a word stands for it: where none does, two INTs
+// wrap, and an MA is refused.
+pub(crate) fn on_sums(bits: u32, in_word: bool, r: Registers, below: Cell, top: Cell) -> Plan
+    requires { ⌜ Small r × (2 ≤ r .sp) ⌝ }
+    ensures { λ d. ⌜ ((z : ℤ) → bits ≡ word z → «in_word» ≡ inWord z → Means r d (onSums z r below top)) ⌝ }
+{
+    if below.tag == tags::INT {
+        return on_ints(bits, r, below, top);
+    }
+    if top.tag != tags::INT {
+        return WRONG_TAG;
+    }
+    if below.tag != tags::MA {
+        return WRONG_TAG;
+    }
+    if !in_word {
+        return BAD_ADDRESS;
+    }
+    plans::result(r, 2, memory_cell(bits))
 }
 
 // Two INTs, the top one not zero.

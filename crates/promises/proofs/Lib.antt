@@ -14,3 +14,5 @@ pub mod Each
 pub mod TokenPlaces
 pub mod RefusalPlaces
 pub mod Refusals
+-- Request d: an address that ADD or SUB makes is the exact one.
+pub mod Addresses

@@ -1,3 +1,4 @@
 -- What the demands say, and what a request promises besides.
 pub mod Series
 pub mod Refusals
+pub mod Addresses

@@ -17,7 +17,7 @@ use Rattle.rules.specs.Floats.{unordered}
 use Rattle.rules.specs.Instructions.{Action, stop, pushInt, pushFloat, pushPa, dup, swap, sums, ints, divides, floats, compareFloats, one, equal, isNil, pushSp, popSp, pushFbr, popFbr, link, addSp, pushInd, storeInd, pushOff, storeOff, jump, jumpC, jumpInd, jsr, jsrInd, Row, codes, rows, rowOf, kindOf, actionOf}
 use Rattle.rules.specs.Table.{Program, codeOf, operandOf, within, soundPlace}
 use Rattle.rules.specs.State.{Memory, cellAt, soundCell, soundCells, stateTests, sound}
-use Rattle.rules.specs.Decide.{demand, inside, memoryAddress, programAddress, following, result, swapped, stored, moved, framed, linked, jumped, called, halted, addSpTo, frame, onValues, decide}
+use Rattle.rules.specs.Decide.{demand, inside, memoryAddress, programAddress, following, result, swapped, stored, moved, framed, linked, jumped, called, halted, addSpTo, frame, pushable, onValues, decide}
 use Rattle.rules.specs.Commit.{roomFor}
 use Rattle.rules.specs.Step.{decideAt, fitted, judged}
 use Rattle.rules.specs.declared.Cell.{Cell}
@@ -307,7 +307,8 @@ module _ (p : Program) (r : Registers) (m : Memory) (s : Sound p r m) (going : r
   fair-values swap aim =
       demands (leb 2 (r .sp)) _ _ (λ h. does (swapped r vb vt) (λ l. fair-swapped p r m s going vb vt hb ht (leb-true 2 (r .sp) h)))
   fair-values (sums f) aim =
-      demands (leb 2 (r .sp)) _ _ (λ h. demands (has INT vt && (has INT vb || has MA vb)) _ _ (λ t. pushes 2 _ (summed (p .count) _ vb vt t)))
+      demands (leb 2 (r .sp)) _ _ (λ h. demands (has INT vt && (has INT vb || has MA vb)) _ _ (λ t.
+      demands (pushable vb (f (signed (vb .bits)) (signed (vt .bits)))) _ _ (λ w. pushes 2 _ (summed (p .count) _ vb vt t))))
   fair-values (ints f) aim =
       demands (leb 2 (r .sp)) _ _ (λ h. demands (has INT vb && has INT vt) _ _ (λ t. plain 2 INT _ zero-le))
   fair-values (divides f) aim =

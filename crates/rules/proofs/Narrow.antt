@@ -14,12 +14,12 @@ use lib.Ieee.{Float, Format, binary32, ofBits, add, sub, mul, div, fits, lt}
 use lib.Ieee.Bits.{toBits-lt}
 use lib.Ieee.Fits.{add-fits, sub-fits, mul-fits, div-fits}
 use Rattle.rules.specs.Tags.{INT, FLOAT, MA, PA, int, float, ma, pa, has}
-use Rattle.rules.specs.Words.{signed, word, plus, minus, times, quotient, remainder, bit, holds, logic, nand, nor, unlike, bitNot, bitNand, bitNor, less, sense, ordered}
+use Rattle.rules.specs.Words.{signed, word, times, quotient, remainder, bit, holds, logic, nand, nor, unlike, bitNot, bitNand, bitNor, less, sense, ordered}
 use Rattle.rules.specs.Floats.{rounded, plusF, minusF, timesF, quotientF, unordered, orderedF}
 use Rattle.rules.specs.Instructions.{Action, stop, pushInt, pushFloat, pushPa, dup, swap, sums, ints, divides, floats, compareFloats, one, equal, isNil, pushSp, popSp, pushFbr, popFbr, link, addSp, pushInd, storeInd, pushOff, storeOff, jump, jumpC, jumpInd, jsr, jsrInd, Row, rows, rowOf, actionOf}
 use Rattle.rules.specs.Table.{Program, codeOf, operandOf}
 use Rattle.rules.specs.State.{Memory, cellAt, sound}
-use Rattle.rules.specs.Decide.{inside, memoryAddress, programAddress, result, swapped, stored, moved, framed, linked, jumped, called, halted, agree, nil, addSpTo, frame, onValues, decide}
+use Rattle.rules.specs.Decide.{inside, memoryAddress, programAddress, result, swapped, stored, moved, framed, linked, jumped, called, halted, agree, nil, pushable, addSpTo, frame, onValues, decide}
 use Rattle.rules.specs.Commit.{block, memoryOf}
 use Rattle.rules.specs.Step.{decideAt, judged}
 use Rattle.rules.specs.declared.Cell.{Cell}
@@ -58,12 +58,6 @@ sense-lt : (x y : Bool) → sense x y < 2 ^ 32
 sense-lt true y = lit< tt
 sense-lt false true = lit< tt
 sense-lt false false = lit< tt
-
-plus-lt : Words plus
-plus-lt b t hb ht = modulo-lt (b + t)
-
-minus-lt : Words minus
-minus-lt b t hb ht = modulo-lt (b + (2 ^ 32 - t))
 
 times-lt : Words times
 times-lt b t hb ht = modulo-lt (b * t)
@@ -138,7 +132,7 @@ Kept pushFloat = Unit {0}
 Kept pushPa = Unit {0}
 Kept dup = Unit {0}
 Kept swap = Unit {0}
-Kept (sums f) = Words f
+Kept (sums f) = Unit {0}
 Kept (ints f) = Words f
 Kept (divides f) = Words f
 Kept (floats f) = Words f
@@ -180,7 +174,7 @@ kept-rows : EachRow KeptRow rows
 unfolding rows
 kept-rows =
     tt then tt then tt then tt then tt
-    then plus-lt then minus-lt then times-lt then quotient-lt then remainder-lt
+    then tt then tt then times-lt then quotient-lt then remainder-lt
     then plusF-lt then minusF-lt then timesF-lt then quotientF-lt
     then logic-lt _&&_ then logic-lt _||_ then logic-lt nand then logic-lt nor then logic-lt unlike then falsity-lt
     then and-lt 32 then or-lt 32 then nand-lt then nor-lt then xor-lt 32 then not-lt
@@ -225,7 +219,9 @@ module _ (r : Registers) (m : Memory) (sp : r .sp < 2 ^ 32) (fbr : r .fbr < 2 ^ 
   slim-values dup k = demands (leb 1 (r .sp)) _ _ (λ h. pushes 0 vt ht)
   slim-values swap k = demands (leb 2 (r .sp)) _ _ (λ h. does (swapped r vb vt) (ht, hb))
   slim-values (sums f) k =
-      demands (leb 2 (r .sp)) _ _ (λ h. demands (has INT vt && (has INT vb || has MA vb)) _ _ (λ t. pushes 2 _ (k (vb .bits) (vt .bits) hb ht)))
+      let z = f (signed (vb .bits)) (signed (vt .bits)) in
+      demands (leb 2 (r .sp)) _ _ (λ h. demands (has INT vt && (has INT vb || has MA vb)) _ _ (λ t.
+      demands (pushable vb z) _ _ (λ w. pushes 2 _ (word-lt z))))
   slim-values (ints f) k =
       demands (leb 2 (r .sp)) _ _ (λ h. demands (has INT vb && has INT vt) _ _ (λ t. pushes 2 _ (k (vb .bits) (vt .bits) hb ht)))
   slim-values (divides f) k =

@@ -1,5 +1,5 @@
 -- Where the quotient of two signed 32-bit integers fits: everywhere but at -2 ^ 31 by -1. Assumes nothing.
-use mathlib.Core.Path.{_≡_, refl, sym, ap, ap₂, _∙_, subst}
+use mathlib.Core.Path.{_≡_, refl, sym, ap, ap₂, _∙_}
 use Prim.Native.Nat.{ℕ, zero, suc, _/_, _^_, _≤_, _<_, zero-le, suc-le-suc}
 use native.Mathlib.Nat.{le-of-suc-le-suc, lt-of-le-of-lt, div-le-self, div-lt-self, zero-lt-suc, div-one, div-zero, mod-zero}
 use native.Mathlib.Omega.{arith}
@@ -8,9 +8,10 @@ use lib.IntN.{ℤ, pos, negsuc, negℤ}
 use lib.Signed.{mag, quotZ, remZ, mag-rem}
 use mir.Syntax.{w32}
 use mir.Val.{Fits, SFits, toZ, ofZ}
-use mir.Facts.{toZ-ofZ, ofZ-toZ, toZ-inj, sfits-toZ, fits-lit}
+use mir.Facts.{toZ-ofZ, ofZ-toZ, toZ-inj, fits-lit}
 use Rattle.rules.specs.Words.{signed, word, quotient, remainder}
-use Rattle.word.proofs.Signed.{word-signed}
+use Rattle.rules.proofs.Readings.{word-signed, signed-fits}
+use Rattle.word.proofs.Signed.{reads}
 
 mag-neg : (q : ℕ) {a : ℕ} → q ≤ suc a → mag (negℤ (pos q)) ≤ a
 mag-neg zero h = zero-le
@@ -30,24 +31,14 @@ quot-fits (negsuc a) (negsuc (suc b)) h ne =
     omega arith
 
 -- the cell's bits n, and x, what they stand for
-module _ (n : ℕ) (f : Fits w32 n) (x : ℤ) (e : x ≡ signed n) where
-  reads-fit : SFits w32 x
-  reads-fit = subst (SFits w32) (sym e) (sfits-toZ f)
-
-  pub reads : toZ w32 (ofZ w32 x) ≡ signed n
-  reads = toZ-ofZ reads-fit ∙ e
-
-  pub bits-are : ofZ w32 x ≡ n
-  bits-are = ap (ofZ w32) e ∙ ofZ-toZ f
-
-  pub sfits-signed : SFits w32 (signed n)
-  sfits-signed = subst (SFits w32) e reads-fit
+bits-are : (n : ℕ) → Fits w32 n → (x : ℤ) → x ≡ signed n → ofZ w32 x ≡ n
+bits-are n f x e = ap (ofZ w32) e ∙ ofZ-toZ f
 
 module _ (a b : ℕ) (fa : Fits w32 a) (fb : Fits w32 b) (nz : b ≡ 0 → ⊥) (ne : a ≡ 2147483648 → b ≡ 4294967295 → ⊥)
     (x y : ℤ) (ex : x ≡ signed a) (ey : y ≡ signed b) where
   fits-here : SFits w32 (quotZ (signed a) (signed b))
   fits-here = record {
-    sfits = quot-fits (signed a) (signed b) (sfits-signed a fa x ex .sfits)
+    sfits = quot-fits (signed a) (signed b) (signed-fits a .sfits)
         (λ (p : signed a ≡ negsuc 2147483647) (q : signed b ≡ negsuc 0).
         ne (toZ-inj fa (fits-lit tt) p) (toZ-inj fb (fits-lit tt) q));
   }
@@ -55,16 +46,16 @@ module _ (a b : ℕ) (fa : Fits w32 a) (fb : Fits w32 b) (nz : b ≡ 0 → ⊥) 
   pub divides : (0 < ofZ w32 y) × SFits w32 (quotZ (toZ w32 (ofZ w32 x)) (toZ w32 (ofZ w32 y)))
   divides = (
     rw (bits-are b fb y ey) (lt-of-le-ne zero-le (λ (p : 0 ≡ b). nz (sym p))),
-    rw (reads a fa x ex, reads b fb y ey) fits-here,
+    rw (reads a x ex, reads b y ey) fits-here,
   )
 
   pub quotient-is : word (toZ w32 (ofZ w32 (quotZ (toZ w32 (ofZ w32 x)) (toZ w32 (ofZ w32 y))))) ≡ word (quotZ (signed a) (signed b))
-  quotient-is = ap word (toZ-ofZ (divides .1) ∙ ap₂ quotZ (reads a fa x ex) (reads b fb y ey))
+  quotient-is = ap word (toZ-ofZ (divides .1) ∙ ap₂ quotZ (reads a x ex) (reads b y ey))
 
   pub remainder-is : word (toZ w32 (ofZ w32 (remZ (toZ w32 (ofZ w32 x)) (toZ w32 (ofZ w32 y))))) ≡ word (remZ (signed a) (signed b))
   remainder-is =
-      rw (reads a fa x ex, reads b fb y ey)
-      (ap word (toZ-ofZ {w = w32} {z = remZ (signed a) (signed b)} (record { sfits = lt-of-le-of-lt (mag-rem (signed a) (signed b)) (sfits-signed a fa x ex .sfits) })))
+      rw (reads a x ex, reads b y ey)
+      (ap word (toZ-ofZ {w = w32} {z = remZ (signed a) (signed b)} (record { sfits = lt-of-le-of-lt (mag-rem (signed a) (signed b)) (signed-fits a .sfits) })))
 
 -- ---- by zero, where a step refuses and the definitions still have an answer
 quot-zero : (x : ℤ) → quotZ x (pos 0) ≡ pos 0

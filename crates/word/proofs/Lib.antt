@@ -5,4 +5,5 @@ pub mod Bitwise
 mod Modulus
 mod Halves
 mod Divide
+mod Exact
 mod Unlike

@@ -6,26 +6,26 @@ use Prim.Native.Nat.{ℕ, zero, suc, _+_, _-_, _*_, _/_, _%_, _^_, _<_}
 use native.Mathlib.Nat.{lt-of-le-of-lt, mod-lt, div-add-mod', zero-lt-suc, zero-mul}
 use native.Mathlib.Omega.{arith}
 use lib.IntN.{ℤ, pos, negsuc, negℤ, natAbs, _+ℤ_, _-ℤ_, _*ℤ_, negℤ-+ℤ}
-use lib.Signed.{mag, nonNeg, quotZ, remZ, mag-rem}
+use lib.Signed.{nonNeg, quotZ, remZ, mag-rem}
 use mir.Syntax.{w32}
-use mir.Facts.{toZ-inj, sfits-toZ}
-use Rattle.rules.specs.Words.{signed, word, plus, minus, times, quotient, remainder}
-use Rattle.word.proofs.Signed.{word-signed, signed-word}
+use mir.Facts.{toZ-inj}
+use Rattle.rules.specs.Words.{signed, word, times, quotient, remainder}
+use Rattle.rules.proofs.Readings.{word-signed, signed-word, signed-fits}
 use Rattle.word.proofs.Divide.{quot-fits}
 use Rattle.word.proofs.Modulus.{word-plus, word-negates, word-times}
 
 -- "the sum, difference and product are taken modulo 2^32"
 module _ (b t : ℕ) (hb : b < 2 ^ 32) (ht : t < 2 ^ 32) where
-  pub plus-natural : plus b t ≡ word (signed b +ℤ signed t)
-  plus-natural =
-      sym (word-plus (signed b) (signed t)
-      ∙ ap₂ (λ (x y : ℕ). (x + y) % 2 ^ 32) (word-signed b hb) (word-signed t ht))
+  pub sum-modulo : word (signed b +ℤ signed t) ≡ (b + t) % 2 ^ 32
+  sum-modulo =
+      word-plus (signed b) (signed t)
+      ∙ ap₂ (λ (x y : ℕ). (x + y) % 2 ^ 32) (word-signed b hb) (word-signed t ht)
 
-  pub minus-natural : minus b t ≡ word (signed b -ℤ signed t)
-  minus-natural =
-      sym (word-plus (signed b) (negℤ (signed t))
+  pub difference-modulo : word (signed b -ℤ signed t) ≡ (b + (2 ^ 32 - t)) % 2 ^ 32
+  difference-modulo =
+      word-plus (signed b) (negℤ (signed t))
       ∙ ap₂ (λ (x y : ℕ). (x + y) % 2 ^ 32) (word-signed b hb) (word-negates (signed t) ∙ ap (λ (x : ℕ). (2 ^ 32 - x) % 2 ^ 32) (word-signed t ht))
-      ∙ omega arith)
+      ∙ omega arith
 
   pub times-natural : times b t ≡ word (signed b *ℤ signed t)
   times-natural =
@@ -82,9 +82,6 @@ lowest-quotient = refl
 pub lowest-remainder : remainder (word (negsuc (2 ^ 31 - 1))) (word (negsuc 0)) ≡ word (pos 0)
 lowest-remainder = refl
 
-mag-signed : (b : ℕ) → b < 2 ^ 32 → mag (signed b) < 2 ^ 31
-mag-signed b h = sfits-toZ {w = w32} (record { fits = h }) .sfits
-
 -- words that stand for the same number are the same
 signed-same : (b n : ℕ) → b < 2 ^ 32 → n < 2 ^ 32 → signed b ≡ signed n → b ≡ n
 signed-same b n hb hn e = toZ-inj {w = w32} (record { fits = hb }) (record { fits = hn }) e
@@ -92,7 +89,7 @@ signed-same b n hb hn e = toZ-inj {w = w32} (record { fits = hb }) (record { fit
 module _ (b t : ℕ) (hb : b < 2 ^ 32) (ht : t < 2 ^ 32) where
   -- the remainder that MOD leaves is that of the numbers
   pub remainder-signed : signed (remainder b t) ≡ remZ (signed b) (signed t)
-  remainder-signed = signed-word (remZ (signed b) (signed t)) (lt-of-le-of-lt (mag-rem (signed b) (signed t)) (mag-signed b hb))
+  remainder-signed = signed-word (remZ (signed b) (signed t)) (lt-of-le-of-lt (mag-rem (signed b) (signed t)) (signed-fits b .sfits))
 
   -- "MOD has the dividend's sign", or is zero
   pub remainder-sign : (signed (remainder b t) ≡ pos 0) ⊎ (nonNeg (signed (remainder b t)) ≡ nonNeg (signed b))
@@ -107,7 +104,7 @@ module _ (b t : ℕ) (hb : b < 2 ^ 32) (ht : t < 2 ^ 32) where
       go (negsuc n) e = zero-lt-suc n
 
   -- the quotient times the divisor and the remainder make the dividend: of the words at any two, by zero and the overflowing pair too
-  pub divides-back : plus (times (quotient b t) t) (remainder b t) ≡ b
+  pub divides-back : (times (quotient b t) t + remainder b t) % 2 ^ 32 ≡ b
   divides-back =
       sym (word-plus (quotZ (signed b) (signed t) *ℤ signed t) (remZ (signed b) (signed t))
       ∙ ap (λ (n : ℕ). (n + remainder b t) % 2 ^ 32)
@@ -119,7 +116,7 @@ module _ (b t : ℕ) (hb : b < 2 ^ 32) (ht : t < 2 ^ 32) where
     pub quotient-signed : signed (quotient b t) ≡ quotZ (signed b) (signed t)
     quotient-signed =
         signed-word (quotZ (signed b) (signed t))
-        (quot-fits (signed b) (signed t) (mag-signed b hb)
+        (quot-fits (signed b) (signed t) (signed-fits b .sfits)
         (λ (p : signed b ≡ negsuc 2147483647) (q : signed t ≡ negsuc 0).
         ne (signed-same b 2147483648 hb (omega arith) p) (signed-same t 4294967295 ht (omega arith) q)))
 

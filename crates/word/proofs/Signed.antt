@@ -1,17 +1,18 @@
--- The signed reading of 32 bits, and back: what the casts between `u32` and `i32` rest on. Assumes nothing.
+-- The signed reading of 32 bits, and back: what the casts between `u32`, `i32` and `i64` rest on. Assumes nothing.
 use mathlib.Core.Path.{_≡_, refl, sym, ap, _∙_, subst}
 use mathlib.Core.Bool.{Bool, true, false, not}
 use Prim.Native.Nat.{ℕ, zero, suc, _-_, _^_, _≤_, _<_}
 use native.Mathlib.Nat.{zero-lt-suc, not-suc-le-zero}
 use native.Mathlib.Omega.{arith}
-use lib.Dec.{T, ltb, ltb→lt, nltb→le}
+use lib.Dec.{T}
 use borrow.Author.Tests.{le-ltb, leb-false}
 use lib.IntN.{ℤ, pos, negsuc, natAbs, _-ℤ_}
 use lib.Signed.{mag, leZ, nonNeg}
-use mir.Syntax.{w32}
-use mir.Val.{Fits, SFits, toZ, ofZ, sel}
-use mir.Facts.{toZ-ofZ, toZ-pos}
+use mir.Syntax.{w32, w64}
+use mir.Val.{Fits, SFits, toZ, ofZ}
+use mir.Facts.{toZ-ofZ, toZ-pos, sfits-widen}
 use Rattle.rules.specs.Words.{signed, word}
+use Rattle.rules.proofs.Readings.{signed-fits}
 
 -- -1 - k
 minus-one-less : (k : ℕ) → negsuc 0 -ℤ pos k ≡ negsuc k
@@ -20,22 +21,6 @@ minus-one-less (suc k) = ap (λ (x : ℕ). negsuc (suc x)) (omega arith)
 
 minus-one-plus : (k : ℕ) → negsuc 0 -ℤ negsuc k ≡ pos k
 minus-one-plus k = rw (le-ltb (suc k) 1 (zero-lt-suc k)) (ap pos (omega arith))
-
--- a word is the word of the number that it stands for
-pub word-signed : (n : ℕ) → n < 2 ^ 32 → word (signed n) ≡ n
-word-signed n h = go (ltb n (2 ^ 31)) (ltb→lt n (2 ^ 31)) (nltb→le n (2 ^ 31))
-  where
-    go : (b : Bool) → (T b → n < 2 ^ 31) → (T (not b) → 2 ^ 31 ≤ n) → word (sel b (pos n) (negsuc (2 ^ 32 - suc n))) ≡ n
-    go true k l = omega arith
-    go false k l = let p : 2147483648 ≤ n = l tt in omega arith
-
--- a number of the range is what its word stands for
-pub signed-word : (z : ℤ) → mag z < 2 ^ 31 → signed (word z) ≡ z
-signed-word z h = ap signed (bits-of z h) ∙ toZ-ofZ {w = w32} {z = z} (record { sfits = h })
-  where
-    bits-of : (z : ℤ) → mag z < 2 ^ 31 → word z ≡ ofZ w32 z
-    bits-of (pos n) h = omega arith
-    bits-of (negsuc n) h = omega arith
 
 -- ---- from the bits: -1 - (2 ^ 32 - 1 - n) for an n in the upper half
 module _ (n : ℕ) (h : 2147483648 ≤ n) (l : n < 4294967296) where
@@ -47,6 +32,22 @@ module _ (n : ℕ) (h : 2147483648 ≤ n) (l : n < 4294967296) where
 
   pub read-signed : toZ w32 (ofZ w32 (negsuc 0 -ℤ toZ w32 (4294967295 - n))) ≡ signed n
   read-signed = toZ-ofZ read-fits ∙ read-up ∙ rw (le-ltb n (2 ^ 31) h) (ap negsuc (omega arith))
+
+-- ---- the number x of a word, as a local holds it
+module _ (b : ℕ) (x : ℤ) (e : x ≡ signed b) where
+  pub reads-fit : SFits w32 x
+  reads-fit = subst (SFits w32) (sym e) (signed-fits b)
+
+  pub reads : toZ w32 (ofZ w32 x) ≡ signed b
+  reads = toZ-ofZ reads-fit ∙ e
+
+-- ---- a number of 32 bits in 64
+module _ (z : ℤ) (f : SFits w32 z) where
+  pub widens : SFits w64 (toZ w32 (ofZ w32 z))
+  widens = subst (SFits w64) (sym (toZ-ofZ f)) (sfits-widen tt f)
+
+  pub widened : toZ w64 (ofZ w64 (toZ w32 (ofZ w32 z))) ≡ z
+  widened = toZ-ofZ widens ∙ toZ-ofZ f
 
 -- ---- to the bits
 module _ (z : ℤ) (f : SFits w32 z) where

@@ -1,10 +1,16 @@
 // Integers of 32 bits: the two readings of a word, and ADD, SUB, TIMES, DIV and MOD.
 use rules::words;
 ghost use mathlib.Core.Path.{_≡_};
-ghost use Rattle.rules.specs.Words.{signed, word, plus, minus, times, quotient, remainder};
+ghost use lib.IntN.{_+ℤ_, _-ℤ_};
+ghost use Rattle.rules.specs.Words.{signed, word, inWord, times, quotient, remainder};
 
 // A word has two halves of 16 bits: each is below this.
 const HALF: u32 = 0x1_0000;
+
+// 2^31 - 1 and -2^31, the highest and the lowest number that a word stands for.
+const HIGHEST: i64 = words::HIGHEST as i64;
+
+const LOWEST: i64 = -1 - HIGHEST;
 
 // The number that a word stands for, by two's complement.
 pub fn signed(b: u32) -> i32
@@ -28,18 +34,39 @@ pub(crate) fn word(z: i32) -> u32
     }
 }
 
+// Whether a word stands for the number.
+fn in_word(z: i64) -> bool
+    ensures { λ r. ⌜ r ≡ inWord z ⌝ }
+{
+    LOWEST <= z && z <= HIGHEST
+}
+
 // ADD: the sum, modulo 2^32.
 pub fn plus(b: u32, t: u32) -> u32
-    ensures { λ r. ⌜ r ≡ plus b t ⌝ }
+    ensures { λ r. ⌜ r ≡ word (signed b +ℤ signed t) ⌝ }
 {
     std::num::wrapping_add_u32(b, t)
 }
 
+// ADD: whether a word stands for the exact sum.
+pub fn plus_in_word(b: u32, t: u32) -> bool
+    ensures { λ r. ⌜ r ≡ inWord (signed b +ℤ signed t) ⌝ }
+{
+    in_word(signed(b) as i64 + signed(t) as i64)
+}
+
 // SUB: the difference, modulo 2^32.
 pub fn minus(b: u32, t: u32) -> u32
-    ensures { λ r. ⌜ r ≡ minus b t ⌝ }
+    ensures { λ r. ⌜ r ≡ word (signed b -ℤ signed t) ⌝ }
 {
     std::num::wrapping_sub_u32(b, t)
+}
+
+// SUB: whether a word stands for the exact difference.
+pub fn minus_in_word(b: u32, t: u32) -> bool
+    ensures { λ r. ⌜ r ≡ inWord (signed b -ℤ signed t) ⌝ }
+{
+    in_word(signed(b) as i64 - signed(t) as i64)
 }
 
 // TIMES: the product, modulo 2^32, by halves of 16 bits. The product of the upper halves is a multiple of 2^32.

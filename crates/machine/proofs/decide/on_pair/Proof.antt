@@ -1,4 +1,6 @@
 -- `machine::decide::on_pair` meets its contract. Assumes nothing.
+use lib.IntN.{_+ℤ_, _-ℤ_}
+use Rattle.rules.specs.Words.{signed}
 use Rattle.rules.specs.Instructions.{rows, rowOf, actionOf}
 use Rattle.rules.specs.Decide.{onValues}
 use Rattle.machine.proofs.Pairs.{first-pair}
@@ -8,8 +10,11 @@ use Rattle.machine.proofs.decide.on_pair.Tie as tie
 minus-requires : tie.Need-minus-requires
 minus-requires c κs = tt
 
+minus-in-word-requires : tie.Need-minus-in-word-requires
+minus-in-word-requires c κs = tt
+
 on-sums-requires : tie.Need-on-sums-requires
-on-sums-requires c κs = (c .before .before .pre .0, c .before .before .pre .1)
+on-sums-requires c κs = (c .before .before .before .pre .0, c .before .before .before .pre .1)
 
 times-requires : tie.Need-times-requires
 times-requires c κs = tt
@@ -140,12 +145,18 @@ on-equal-requires c κs = (c .before .pre .0, c .before .pre .1)
 plus-requires : tie.Need-plus-requires
 plus-requires c κs = tt
 
+plus-in-word-requires : tie.Need-plus-in-word-requires
+plus-in-word-requires c κs = tt
+
 on-sums-requires-2 : tie.Need-on-sums-requires-2
-on-sums-requires-2 c κs = (c .before .before .pre .0, c .before .before .pre .1)
+on-sums-requires-2 c κs = (c .before .before .before .pre .0, c .before .before .before .pre .1)
 
 returns : tie.Need-returns
 unfolding onValues actionOf rowOf rows
-returns c m n = rw (c .before .before .match .keys1, c .on-sums .ensures m, c .before .minus .ensures)
+returns c m n =
+    let a = c .before .before .before .before .args in
+    rw (c .before .before .before .match .keys1)
+    (c .on-sums .ensures (signed (a .vb .bits) -ℤ signed (a .vt .bits)) (c .before .before .minus .ensures) (c .before .minus-in-word .ensures) m)
 
 returns-2 : tie.Need-returns-2
 unfolding onValues actionOf rowOf rows
@@ -237,13 +248,17 @@ returns-23 c m n = rw (c .before .match .keys23, c .on-equal .ensures m)
 
 returns-24 : tie.Need-returns-24
 unfolding onValues actionOf rowOf rows
-returns-24 c m n = rw (first-pair _ (c .before .before .before .pre .2) (c .before .before .match .rest), c .on-sums2 .ensures m, c .before .plus .ensures)
+returns-24 c m n =
+    let a = c .before .before .before .before .args in
+    rw (first-pair _ (c .before .before .before .before .pre .2) (c .before .before .before .match .rest))
+    (c .on-sums2 .ensures (signed (a .vb .bits) +ℤ signed (a .vt .bits)) (c .before .before .plus .ensures) (c .before .plus-in-word .ensures) m)
 
 pub on-pair-spec : {M : Type 1} → statement M
 on-pair-spec =
     tie.close
     (tie.spec
     minus-requires
+    minus-in-word-requires
     on-sums-requires
     times-requires
     on-ints-requires
@@ -288,6 +303,7 @@ on-pair-spec =
     on-ints-requires-14
     on-equal-requires
     plus-requires
+    plus-in-word-requires
     on-sums-requires-2
     returns
     returns-2
