@@ -7,6 +7,7 @@ from collections import Counter
 from itertools import groupby
 
 import sam
+from sam.table import NAMES
 
 MARK = 0xA5  # the byte that lent memory holds before a call
 PLACES = 1024
@@ -45,7 +46,8 @@ class Script:
         self.numbers = Counter()  # of each call's answers
         self.calls = Counter()
         self.fault_lines = Counter()  # (number, line) of assemble; 2 stands for every later line
-        self.tests = Counter()  # (word, name, cells) of each EQUAL and ISNIL that was made alone
+        self.tests = Counter()  # (word, name, cells, number) of each instruction of TESTED (cases.py) made alone
+        self.address_refusals = Counter()  # (word, name, whether there is a history) of each 6
 
     def say(self, line):
         self.lines.append((line, None))
@@ -124,7 +126,15 @@ class LentMachine:
         self.script.say(f"tags {list_word(self.state.tags)}")
         self.script.say(f"history {list_word(self.state.history)}")
 
+    def count_address_refusal(self, word):
+        """At a 6 the PC is that of the refused instruction."""
+        registers = self.state.registers
+        name = NAMES[self.program.table[registers.pc] >> 32]
+        self.script.address_refusals[word, name, registers.h > 0] += 1
+
     def answer(self, line, number, told):
+        if number == 6:
+            self.count_address_refusal(line.split(" ", 1)[0])
         self.script.call(
             line,
             number,

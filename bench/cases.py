@@ -4,7 +4,7 @@ from itertools import chain, product
 
 import sam
 from calls import ASSEMBLE_TOLD, IMAGE_BYTES, PLACES, TEXT_BYTES, LentMachine
-from programs import FLOAT_EDGES, INTEGER_EDGES, TWO_FLOATS, TWO_INTEGERS
+from programs import FLOAT_EDGES, INTEGER_EDGES, SUMS, TWO_FLOATS, TWO_INTEGERS
 from programs import any_integer, any_operand, any_pattern, any_program
 from sam.actions import FLOAT, INT, MA, PA
 from sam.machine import cell_place, cell_sound, step_place
@@ -265,7 +265,9 @@ def broken_case(chooser, script):
 # ---- one instruction at a time
 
 TAGS = (INT, FLOAT, MA, PA)
-VALUES_TESTED = {"EQUAL": 2, "ISNIL": 1}  # the tests of any tags, and how many values each takes
+
+# Instructions that do another thing with another tag: how many values each takes, and the edges it is tried with.
+TESTED = {"EQUAL": (2, FLOAT_EDGES), "ISNIL": (1, FLOAT_EDGES), **{name: (2, INTEGER_EDGES) for name in SUMS}}
 
 
 def any_bits(chooser, tag, n):
@@ -274,7 +276,8 @@ def any_bits(chooser, tag, n):
     if tag == FLOAT:
         return any_pattern(chooser)
     if tag == MA:
-        return chooser.choice([0, 1, n - 1, n, WORD - 1, chooser.randrange(n), chooser.randrange(n)])
+        near = [0, 1, n - 1, n, WORD - 1, chooser.randrange(n), chooser.randrange(n)]
+        return chooser.choice(near + [any_integer(chooser) % WORD] * 3)
     return chooser.randrange(3)
 
 
@@ -301,10 +304,10 @@ def single(instruction):
     return sam.Program(table, length)
 
 
-def stacked(*cells):
-    """These (tag, bits) on the stack, with room to record one result."""
+def stacked(*cells, h=2):
+    """These (tag, bits) on the stack, with room to record one result or with other room."""
     tags, bits = map(list, zip(*cells, (INT, 0)))
-    return sam.State(bits, tags, [0, 0], sam.Registers(n=len(bits), h=2, sp=len(cells)))
+    return sam.State(bits, tags, [0] * h, sam.Registers(n=len(bits), h=h, sp=len(cells)))
 
 
 def edge_pairs():
@@ -315,24 +318,33 @@ def edge_pairs():
 
 
 def edge_tests():
-    """EQUAL of every two edge patterns and ISNIL of every one, each under every tag that may have it."""
-    for name, count in VALUES_TESTED.items():
+    """Each instruction of TESTED with every edge, or every two of them, each under every tag that may have it."""
+    for name, (count, edges) in TESTED.items():
         program = single(name)
-        cells = [cell for cell in product(TAGS, FLOAT_EDGES) if cell_sound(*cell, program.length)]
+        patterns = [edge % WORD for edge in edges]
+        cells = [cell for cell in product(TAGS, patterns) if cell_sound(*cell, program.length)]
         for values in product(cells, repeat=count):
             yield program, stacked(*values)
 
 
+def edge_addresses():
+    """The sums of an MA and an INT without a history, and with one that has no room for the record."""
+    for program, below, top, h in product(map(single, SUMS), INTEGER_EDGES, INTEGER_EDGES, (0, 1)):
+        yield program, stacked((MA, below % WORD), (INT, top % WORD), h=h)
+
+
 def edge_states():
-    return chain(edge_pairs(), edge_tests())
+    return chain(edge_pairs(), edge_tests(), edge_addresses())
 
 
 def lend_single(script, word, program, state):
-    """A machine for one instruction. What a test is made of is counted, by the call (`word`) that follows."""
+    """A machine for one instruction. What a test is made of, and what it gives, is counted, by the call (`word`) that
+    follows."""
     name = NAMES[program.table[0] >> 32]
-    if name in VALUES_TESTED:
-        sp = state.registers.sp
-        script.tests[word, name, tuple(state.cells(max(sp - VALUES_TESTED[name], 0), sp))] += 1
+    if name in TESTED:
+        (count, _), sp = TESTED[name], state.registers.sp
+        values = tuple(state.cells(max(sp - count, 0), sp))
+        script.tests[word, name, values, step_number(program, state)] += 1
     return LentMachine(script, program, state)
 
 

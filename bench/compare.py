@@ -4,8 +4,9 @@
     compare.py [--seed S] [--cases C] [--only FAMILY,..] [--console COMMAND] [--save FILE] DRIVER
 
 DRIVER and COMMAND are commands: a program, or an emulator and a program. Exit status 1 where anything differs, a
-number of the documents was never given back, a fault of a source was never in a first line or never in a later one, or
-a test of FLOATs that request b speaks of was never made.
+number of the documents was never given back, a fault of a source was never in a first line or never in a later one, a
+test of FLOATs that request b speaks of or a sum at the ends of 32 bits that request d speaks of was never made, or a
+step or a run was never refused at such a sum.
 """
 
 import argparse
@@ -19,16 +20,25 @@ from itertools import permutations, product
 import sam
 from calls import Script
 from cases import CORNERS, FAMILIES
-from programs import MINUS_ZERO, NANS, ZEROS
-from sam.actions import FLOAT
+from programs import GREATEST, LEAST, MINUS_ZERO, NANS, SUMS, ZEROS
+from sam.actions import FLOAT, INT, MA
+from sam.table import WORD
 from sources import any_source, every_refusal
 
 ALL_NUMBERS = [*range(0, 12), *range(21, 32), 33, *range(41, 46), 50]
 FAULTS = [*range(22, 31), 33]  # refusals of a source that have a line
 FLOAT_TESTS = [  # what request b changed
-    *[("EQUAL", ((FLOAT, zero), (FLOAT, other))) for zero, other in permutations(ZEROS)],
-    *[("EQUAL", ((FLOAT, nan), (FLOAT, nan))) for nan in NANS],
-    ("ISNIL", ((FLOAT, MINUS_ZERO),)),
+    *[("EQUAL", ((FLOAT, zero), (FLOAT, other)), 0) for zero, other in permutations(ZEROS)],
+    *[("EQUAL", ((FLOAT, nan), (FLOAT, nan)), 0) for nan in NANS],
+    ("ISNIL", ((FLOAT, MINUS_ZERO),), 0),
+]
+ADDRESS_ENDS = [  # what request d changed: an MA and an INT, the last accepted and the first refused
+    ("ADD", (GREATEST, 0), (GREATEST, 1)),
+    ("ADD", (LEAST, 0), (LEAST, -1)),
+    ("ADD", (0, LEAST), (-1, LEAST)),
+    ("SUB", (LEAST, 0), (LEAST, 1)),
+    ("SUB", (GREATEST, 0), (GREATEST, -1)),
+    ("SUB", (-1, LEAST), (0, LEAST)),
 ]
 CUT = 400  # characters of a line that a difference shows
 
@@ -128,15 +138,25 @@ def all_in(counter, wanted, what):
     return not missing
 
 
+def sum_tests():
+    """At each end: done, with no room for the record 8, beyond it 6, and two INTs there done."""
+    for name, accepted, refused in ADDRESS_ENDS:
+        for tag, values, number in [(MA, accepted, 0), (MA, accepted, 8), (MA, refused, 6), (INT, refused, 0)]:
+            below, top = (value % WORD for value in values)
+            yield name, ((tag, below), (INT, top)), number
+
+
 def all_met(script):
-    """Whether the cases led to every number, to every fault of a source in its first line and in a later one, and to
-    every test of FLOATs by the proved step and by the direct run."""
+    """Whether the cases led to every number, to every fault of a source in its first line and in a later one, to every
+    test of FLOATs and sum by the proved step and by the direct run, and to sums refused with and without a history."""
     lines = product(FAULTS, (1, 2))
-    tests = [(word, *test) for word in ("step", "plain") for test in FLOAT_TESTS]
+    tests = [(word, *test) for word in ("step", "plain") for test in [*FLOAT_TESTS, *sum_tests()]]
+    refused_sums = product(("step", "run", "plain"), SUMS, (False, True))
     complete = [
         all_in(script.numbers, ALL_NUMBERS, "never given back"),
         all_in(script.fault_lines, lines, "faults never in the first line (1) or never in a later one (2)"),
         all_in(script.tests, tests, "tests never made"),
+        all_in(script.address_refusals, refused_sums, "sums never refused without (False) or with (True) a history"),
     ]
     return all(complete)
 

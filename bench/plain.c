@@ -1,6 +1,6 @@
-/* A direct C interpreter of document 01 with request b of document 02, as one would write it for speed: soundness is
- * judged once, then a loop over one switch whose cases test, record and write their cells themselves. The proved run is
- * measured against it. */
+/* A direct C interpreter of document 01 with requests b and d of document 02, as one would write it for speed:
+ * soundness is judged once, then a loop over one switch whose cases test, record and write their cells themselves. The
+ * proved run is measured against it. */
 #include "plain.h"
 
 #include <stdbool.h>
@@ -103,7 +103,6 @@ static inline uint64_t step_place(uint64_t pc, uint64_t sp, uint64_t fbr, uint64
 #define TAKE(condition) if (!(condition)) END(4)
 #define ONE_TAGGED(tagged) ONE; TAKE(vt.tag == (tagged))
 #define TWO_TAGGED(tagged) TWO; TAKE(vb.tag == (tagged) && vt.tag == (tagged))
-#define TWO_TO_ADD TWO; TAKE((vb.tag == SAM_INT || vb.tag == SAM_MA) && vt.tag == SAM_INT)
 
 /* 8, or the record of a step that writes `count` cells: "its cell places by rising address, then its step place". */
 #define KEEP(count, cell_places) \
@@ -131,6 +130,18 @@ static inline uint64_t step_place(uint64_t pc, uint64_t sp, uint64_t fbr, uint64
         sp = high; \
     } while (0)
 
+/* Two INTs, whose tag is 0, wrap and pay for no test more; an MA and an INT are 6 where the result leaves 32 bits. */
+#define SUM(operation, overflows) \
+    TWO; \
+    if ((vb.tag | vt.tag) == SAM_INT) { \
+        RESULT_OF_TWO(integer(vb.bits operation vt.bits)); \
+    } else { \
+        int32_t moved; \
+        TAKE(vb.tag == SAM_MA && vt.tag == SAM_INT); \
+        if (overflows((int32_t)vb.bits, (int32_t)vt.bits, &moved)) END(6); \
+        RESULT_OF_TWO(address((uint32_t)moved)); \
+    }
+
 /* Steps of a sound state: the number that ends them, and how many were made. A negative address or offset, taken as
  * unsigned, is above every SP and N. */
 static uint32_t repeat(struct machine *m, uint64_t limit, uint64_t *made) {
@@ -156,8 +167,8 @@ static uint32_t repeat(struct machine *m, uint64_t limit, uint64_t *made) {
         case PUSHIMMPA: PUSH(program_address(operand)); break;
         case DUP: ONE; PUSH(vt); break;
         case SWAP: TWO; KEEP(2, KEEP_CELL(sp - 2); KEEP_CELL(sp - 1)); SET(sp - 2, vt); SET(sp - 1, vb); break;
-        case ADD: TWO_TO_ADD; RESULT_OF_TWO(cell(vb.bits + vt.bits, vb.tag)); break;
-        case SUB: TWO_TO_ADD; RESULT_OF_TWO(cell(vb.bits - vt.bits, vb.tag)); break;
+        case ADD: SUM(+, __builtin_add_overflow); break;
+        case SUB: SUM(-, __builtin_sub_overflow); break;
         case TIMES: TWO_TAGGED(SAM_INT); RESULT_OF_TWO(integer(vb.bits * vt.bits)); break;
         case DIV:
             TWO_TAGGED(SAM_INT);

@@ -7,7 +7,10 @@ level) and picks instructions that take them. At a small rate it puts in any ins
 from sam.actions import FLOAT, INT, MA, PA
 from sam.table import INTEGER, KINDS, NAMES, OFFSET, PATTERN, TARGET
 
-INTEGER_EDGES = [0, 1, -1, 2, -2, 3, 7, 40, 255, 65535, 65536, 2**31 - 1, -(2**31), -(2**31) + 1, 2**30]
+LEAST, GREATEST = -(2**31), 2**31 - 1  # of an INT, and of an MA
+INTEGER_EDGES = [
+    0, 1, -1, 2, -2, 3, 7, 40, 255, 65535, 65536, 2**30, -(2**30), GREATEST, GREATEST - 1, LEAST, LEAST + 1,
+]  # fmt: skip
 MINUS_ZERO = 0x80000000
 ZEROS = [0x00000000, MINUS_ZERO]
 NANS = [0x7F800001, 0x7FC00000, 0x7FFFFFFF, 0xFF800001, 0xFFC00000, 0xFFFFFFFF]  # signalling and quiet
@@ -20,6 +23,9 @@ FLOAT_EDGES = [
 TWO_INTEGERS = """
     ADD SUB TIMES DIV MOD AND OR NAND NOR XOR BITAND BITOR BITNAND BITNOR BITXOR CMP GREATER LESS
 """.split()
+SUMS = ["ADD", "SUB"]  # of two INTs, or of an MA and an INT
+# From 0 to an end of an address's range, or next to it, and back: there, back, by how much.
+FAR_TRIPS = [("ADD", "SUB", LEAST), ("ADD", "SUB", GREATEST), ("SUB", "ADD", GREATEST), ("SUB", "ADD", -GREATEST)]
 ONE_INTEGER = ["NOT", "BITNOT", "ISPOS", "ISNEG"]
 TWO_FLOATS = ["ADDF", "SUBF", "TIMESF", "DIVF"]
 
@@ -110,7 +116,7 @@ class Builder:
         if top[-1] == INT:
             choices += [(name, 1, INT) for name in ONE_INTEGER]
         if top == [MA, INT]:
-            choices += [("ADD", 2, MA), ("SUB", 2, MA)]
+            choices += [(name, 2, MA) for name in SUMS]
         if len(top) == 2:
             choices.append(("EQUAL", 2, INT))
         name, pops, leaves = chooser.choice(choices)
@@ -132,6 +138,15 @@ class Builder:
             self.put(f"PUSHOFF {at}")
         else:
             self.put("PUSHFBR", f"PUSHIMM {at}", "ADD", "PUSHIND")
+        self.tags.append(self.tags[at])
+
+    def copy_by_far_address(self):
+        """By an address that goes to an end of its range and returns; or seldom goes on and comes round, which is 6."""
+        chooser = self.chooser
+        at = chooser.randrange(len(self.tags))
+        there, back, far = chooser.choice(FAR_TRIPS)
+        onward = chooser.choice([there, back, back, back])
+        self.put("PUSHFBR", f"PUSHIMM {far}", there, f"PUSHIMM {far}", onward, f"PUSHIMM {at}", "ADD", "PUSHIND")
         self.tags.append(self.tags[at])
 
     def store_top(self):
@@ -198,7 +213,7 @@ class Builder:
         else:
             most = [self.push_something] * 6 + [self.work] * 10
             some = [self.swap, self.copy_up, self.store_top, self.move_sp, self.loop, self.branch, self.call]
-            chooser.choice(most + some)()
+            chooser.choice(most + some + [self.copy_by_far_address])()
 
     def source(self, pieces):
         for _ in range(pieces):

@@ -1,5 +1,5 @@
 #!/usr/bin/env python3
-"""Tests of the interpreter in sam/: the twelve P examples of document 01, its sentences, requests a and b, and the
+"""Tests of the interpreter in sam/: the twelve P examples of document 01, its sentences, requests a, b and d, and the
 settled readings.
 
 Every expected value is read off the documents or worked out by hand; none is copied from an output.
@@ -9,6 +9,7 @@ import ctypes
 import random
 import struct
 import unittest
+from dataclasses import replace
 from itertools import product
 
 import sam
@@ -16,6 +17,7 @@ from sam import floats
 from sam.actions import FLOAT, INT, MA, PA
 
 PLACES = 1024
+WORD = 1 << 32
 
 
 def assembled(text):
@@ -53,6 +55,17 @@ def live(state):
     return state.cells(0, state.registers.sp)
 
 
+def stacked(*cells, h=0):
+    """A machine with these (tag, bits) on its stack, in as few cells as hold them."""
+    tags, bits = map(list, zip(*cells, (INT, 0)))
+    return sam.State(bits, tags, [0] * h, sam.Registers(n=len(bits), h=h, sp=len(cells)))
+
+
+def contents(state):
+    """All that a call may change."""
+    return list(state.bits), list(state.tags), list(state.history), replace(state.registers)
+
+
 class PExamples(unittest.TestCase):
     def top(self, text):
         numbers, state = stepped(text + " STOP")
@@ -60,7 +73,6 @@ class PExamples(unittest.TestCase):
         return live(state)[-1]
 
     def test_values(self):
-        word = 1 << 32
         for text, number in [
             ("PUSHIMM 6 PUSHIMM 4 CMP", -1),  # P1
             ("PUSHIMM 6 PUSHIMM 4 GREATER", 1),
@@ -73,7 +85,7 @@ class PExamples(unittest.TestCase):
             ("PUSHIMM -2147483648 PUSHIMM -1 DIV", -2147483648),
             ("PUSHIMM -2147483648 PUSHIMM -1 MOD", 0),
         ]:
-            self.assertEqual(self.top(text), (INT, number % word), text)
+            self.assertEqual(self.top(text), (INT, number % WORD), text)
 
     def test_p7(self):
         self.assertEqual(stepped("PUSHIMM 1 PUSHIMM 1", n=2)[0], [0, 7])
@@ -430,8 +442,7 @@ class EqualAndNil(unittest.TestCase):
 
     def holds(self, name, *cells):
         """Whether the instruction, on these cells alone, leaves INT 1; otherwise it leaves INT 0."""
-        tags, bits = map(list, zip(*cells, (INT, 0)))
-        state = sam.State(bits, tags, [], sam.Registers(n=len(bits), sp=len(cells)))
+        state = stacked(*cells)
         self.assertEqual(sam.step(program(name), state), 0, cells)
         self.assertIn(live(state), ([(INT, 0)], [(INT, 1)]), cells)
         return live(state) == [(INT, 1)]
@@ -529,6 +540,209 @@ class EqualAndNil(unittest.TestCase):
         self.assertEqual(state.registers, sam.Registers(n=16, h=6, pc=2, sp=2, used=4))
 
 
+class AddressSums(unittest.TestCase):
+    """Request d: ADD and SUB of an MA and an INT."""
+
+    LEAST, GREATEST = -2147483648, 2147483647  # -2^31 and 2^31-1
+
+    # MA, INT and the exact result: the last accepted at an end, then the first refused beyond it.
+    ENDS = {
+        "ADD": [
+            ((2147483647, 0, 2147483647), (2147483647, 1, 2147483648)),
+            ((2147483646, 1, 2147483647), (2147483646, 2, 2147483648)),
+            ((0, 2147483647, 2147483647), (1, 2147483647, 2147483648)),
+            ((1073741824, 1073741823, 2147483647), (1073741824, 1073741824, 2147483648)),
+            ((-2147483648, 0, -2147483648), (-2147483648, -1, -2147483649)),
+            ((-2147483647, -1, -2147483648), (-2147483647, -2, -2147483649)),
+            ((0, -2147483648, -2147483648), (-1, -2147483648, -2147483649)),
+            ((-1, -2147483647, -2147483648), (-2, -2147483647, -2147483649)),
+            ((-1073741824, -1073741824, -2147483648), (-1073741824, -1073741825, -2147483649)),
+        ],
+        "SUB": [
+            ((-2147483648, 0, -2147483648), (-2147483648, 1, -2147483649)),
+            ((-2147483647, 1, -2147483648), (-2147483647, 2, -2147483649)),
+            ((-1, 2147483647, -2147483648), (-2, 2147483647, -2147483649)),
+            ((-1073741824, 1073741824, -2147483648), (-1073741824, 1073741825, -2147483649)),
+            ((2147483647, 0, 2147483647), (2147483647, -1, 2147483648)),
+            ((2147483646, -1, 2147483647), (2147483646, -2, 2147483648)),
+            ((0, -2147483647, 2147483647), (0, -2147483648, 2147483648)),
+            ((-1, -2147483648, 2147483647), (0, -2147483648, 2147483648)),
+            ((1073741824, -1073741823, 2147483647), (1073741824, -1073741824, 2147483648)),
+        ],
+    }
+    # MA and INT with the exact results farthest beyond, which came round to 0, -2, 1 and -1.
+    FAR = {
+        "ADD": [(-2147483648, -2147483648), (2147483647, 2147483647)],
+        "SUB": [(-2147483648, 2147483647), (2147483647, -2147483648)],
+    }
+
+    # Programs whose address went past 32 bits and came round to a legal cell, which the last instruction uses. With
+    # each, the place of the ADD or SUB that went past. SP is 1 and cell 0 INT 5 before what each adds.
+    ROUND = [
+        # 0 - 2^31 - 2^31 is -2^32, which comes round to 0.
+        ("PUSHFBR PUSHIMM -2147483648 ADD PUSHIMM -2147483648 ADD PUSHIND", 5),
+        # 0 + 2147483647 + 2147483647 + 2 is 2^32; the second sum is past the end, the third would be back.
+        ("PUSHFBR PUSHIMM 2147483647 ADD PUSHIMM 2147483647 ADD PUSHIMM 2 ADD PUSHIND", 5),
+        # 1 + 2147483647 is 2^31, which comes round to -2^31; less 2^31 that is 0 again.
+        ("PUSHSP PUSHIMM 2147483647 ADD PUSHIMM -2147483648 ADD PUSHIND", 3),
+        # 0 - 2147483647 - 2147483647 - 2 is -2^32.
+        ("PUSHFBR PUSHIMM 2147483647 SUB PUSHIMM 2147483647 SUB PUSHIMM 2 SUB PUSHIND", 5),
+        # 0 + 2^31 + 2^31, by SUB of -2^31 twice.
+        ("PUSHFBR PUSHIMM -2147483648 SUB PUSHIMM -2147483648 SUB PUSHIND", 3),
+        # The same cell stored to, and the same number for SP and FBR.
+        ("PUSHFBR PUSHIMM -2147483648 ADD PUSHIMM -2147483648 ADD PUSHIMM 9 STOREIND", 5),
+        ("PUSHFBR PUSHIMM -2147483648 ADD PUSHIMM -2147483648 ADD POPFBR", 5),
+        ("PUSHFBR PUSHIMM -2147483648 ADD PUSHIMM -2147483648 ADD POPSP", 5),
+    ]
+
+    def computed(self, name, below, top, tag=MA, h=0):
+        """The number of the instruction on a value of this tag and an INT, and the state; a refused one changes
+        nothing."""
+        state = stacked((tag, below % WORD), (INT, top % WORD), h=h)
+        before = contents(state)
+        number = sam.step(program(name), state)
+        if number:
+            self.assertEqual(contents(state), before, (name, below, top))
+        return number, state
+
+    def refused(self):
+        for name, ends in self.ENDS.items():
+            for _, (below, top, exact) in ends:
+                self.assertFalse(self.LEAST <= exact <= self.GREATEST)
+                yield name, below, top
+            for below, top in self.FAR[name]:
+                yield name, below, top
+
+    def accepted(self):
+        for name, ends in self.ENDS.items():
+            for (below, top, exact), _ in ends:
+                self.assertIn(exact, (self.LEAST, self.GREATEST))
+                yield name, below, top, exact
+
+    def test_refused(self):
+        for name, below, top in self.refused():
+            for h in (0, 2):
+                self.assertEqual(self.computed(name, below, top, h=h)[0], 6, (name, below, top))
+
+    def test_accepted(self):
+        """The last ones, and one beside each: they "give MA"."""
+        for name, below, top, exact in self.accepted():
+            inward = -1 if exact == self.GREATEST else 1
+            moved = top + inward if name == "ADD" else top - inward
+            for operand, result in [(top, exact), (moved, exact + inward)]:
+                number, state = self.computed(name, below, operand)
+                self.assertEqual((number, live(state)), (0, [(MA, result % WORD)]), (name, below, operand))
+
+    def test_below_zero(self):
+        """The range of an MA's sum is that of 32 bits, not of the cells: only its use asks for a cell."""
+        for text, result in [
+            ("PUSHFBR PUSHIMM 1 SUB", -1),
+            ("PUSHFBR PUSHIMM -1 ADD", -1),
+            ("PUSHFBR PUSHIMM 1000 ADD", 1000),
+            ("PUSHFBR PUSHIMM -5 ADD PUSHIMM 3 ADD", -2),
+            ("PUSHFBR PUSHIMM -5 ADD PUSHIMM -3 SUB", -2),
+            ("PUSHFBR PUSHIMM -5 ADD PUSHIMM 5 ADD", 0),
+            ("PUSHFBR PUSHIMM -2147483648 ADD PUSHIMM 2147483647 ADD", -1),
+            ("PUSHFBR PUSHIMM -2147483648 ADD PUSHIMM -2147483648 SUB", 0),
+            ("PUSHFBR PUSHIMM 2147483647 ADD PUSHIMM 2147483647 SUB", 0),
+            ("PUSHFBR PUSHIMM 2147483647 ADD PUSHIMM -2147483648 ADD", -1),
+        ]:
+            numbers, state = stepped(text + " STOP")
+            self.assertEqual((set(numbers), live(state)), ({0}, [(MA, result % WORD)]), text)
+
+    def test_two_integers(self):
+        """ "Two INTs still wrap." """
+        for name, below, top, result in [
+            ("ADD", 2147483647, 1, -2147483648),
+            ("ADD", 1, 2147483647, -2147483648),
+            ("ADD", 2147483647, 2147483647, -2),
+            ("ADD", -2147483648, -1, 2147483647),
+            ("ADD", -2147483648, -2147483648, 0),
+            ("SUB", -2147483648, 1, 2147483647),
+            ("SUB", -2147483648, 2147483647, 1),
+            ("SUB", 2147483647, -1, -2147483648),
+            ("SUB", 2147483647, -2147483648, -1),
+            ("SUB", 0, -2147483648, -2147483648),
+        ]:
+            number, state = self.computed(name, below, top, INT)
+            self.assertEqual((number, live(state)), (0, [(INT, result % WORD)]), (name, below, top))
+
+    def test_tags_before(self):
+        """An MA above an INT is no MA and INT to add: 4 as ever, and 4 before 6."""
+        for name, below, top in self.refused():
+            for below_tag, top_tag in [(INT, MA), (MA, MA), (FLOAT, MA), (MA, FLOAT), (FLOAT, INT), (INT, FLOAT)]:
+                state = stacked((below_tag, below % WORD), (top_tag, top % WORD))
+                self.assertEqual(sam.step(program(name), state), 4, (name, below_tag, top_tag))
+        for name in self.ENDS:  # a PA may only be 0 or 1 here: "a PA cell above length" is 10
+            for cells in [((PA, 1), (INT, 2147483647)), ((MA, 2147483647), (PA, 1))]:
+                self.assertEqual(sam.step(program(name), stacked(*cells)), 4, (name, cells))
+
+    def test_too_few_before(self):
+        """3 before 6: with SP 1 the popped cell above is no value."""
+        for name, below, top in self.refused():
+            state = stacked((MA, below % WORD), (INT, top % WORD))
+            state.registers.sp = 1
+            self.assertEqual(sam.step(program(name), state), 3, (name, below, top))
+
+    def test_halt_and_soundness_before(self):
+        for name, below, top in self.refused():
+            state = stacked((MA, below % WORD), (INT, top % WORD))
+            state.registers.halt = 1
+            self.assertEqual(sam.step(program(name), state), 1)
+            state.tags[2] = 4
+            self.assertEqual(sam.step(program(name), state), 10)
+
+    def test_before_history(self):
+        """6 before 8: the record of ADD or SUB needs two places."""
+        for name, below, top, _ in self.accepted():
+            self.assertEqual(self.computed(name, below, top, h=1)[0], 8, (name, below, top))
+            self.assertEqual(self.computed(name, below, top, h=2)[0], 0, (name, below, top))
+        for name, below, top in self.refused():
+            self.assertEqual(self.computed(name, below, top, h=1)[0], 6, (name, below, top))
+
+    def test_least_cells(self):
+        """N = 3 is the least in which two values can stand; SP goes down, so 7 is not met."""
+        self.assertEqual(stepped("PUSHFBR PUSHIMM -2147483648 ADD PUSHIMM -1 ADD", n=3)[0], [0, 0, 0, 0, 6])
+        self.assertEqual(stepped("PUSHFBR PUSHIMM -2147483648 ADD PUSHIMM 0 ADD", n=3)[0], [0, 0, 0, 0, 0, 2])
+
+    def test_complaint(self):
+        """ "An address went past 32 bits and came round to a legal cell." Steps before the refused one stand."""
+        for added, at in self.ROUND:
+            for h in (0, 64):
+                made, state = started("PUSHIMM 5 " + added, h=h)
+                self.assertEqual(sam.run(made, state, 100), (6, at), added)
+                self.assertEqual((state.registers.pc, state.registers.sp), (at, 3), added)
+                self.assertEqual((state.cell(0), state.tags[1]), ((INT, 5), MA), added)
+                before = contents(state)
+                self.assertEqual(sam.step(made, state), 6, added)
+                self.assertEqual(sam.run(made, state, 100), (6, 0), added)
+                self.assertEqual(contents(state), before, added)
+
+    def test_step_back(self):
+        """The step-back after a refused one takes back the step before it."""
+        made, state = started("PUSHFBR PUSHIMM -2147483648 ADD PUSHIMM -1 ADD STOP", h=9)
+        self.assertEqual(sam.run(made, state, 3), (50, 3))
+        before = contents(state)
+        self.assertEqual(live(state), [(MA, 1 << 31)])
+        # PUSHIMM -1 wrote cell 1, in which the popped INT -2147483648 stood, at PC 3 with SP 1.
+        pushed = [1 << 53 | 1 << 50, 1 << 63 | 3 << 52 | 1 << 42 | 1 << 22]
+        self.assertEqual((sam.step(made, state), sam.step(made, state)), (0, 6))
+        self.assertEqual(state.history[6:], pushed + [0])
+        self.assertEqual(sam.step_back(made, state), 0)
+        self.assertEqual(contents(state), before)
+        self.assertEqual(sam.run(made, state, 9), (6, 1))
+
+    def test_console(self):
+        self.assertEqual(
+            sam.console(b"PUSHFBR PUSHIMM 2147483647 ADD PUSHIMM 1 ADD STOP"),
+            "end 6 steps 4\nPC 4 SP 2 FBR 0\n0 MA 2147483647\n1 INT 1\n",
+        )
+        self.assertEqual(
+            sam.console(b"PUSHFBR PUSHIMM -2147483648 ADD STOP"),
+            "end 0 steps 4\nPC 3 SP 1 FBR 0\n0 MA -2147483648\n",
+        )
+
+
 class Soundness(unittest.TestCase):
     def broken(self, **changes):
         """The numbers of step and step-back on a state with one fault."""
@@ -542,10 +756,10 @@ class Soundness(unittest.TestCase):
                 state.history[:2] = value
             else:
                 setattr(state.registers, name, value)
-        before = (list(state.bits), list(state.tags), list(state.history), state.registers)
+        before = contents(state)
         number = sam.step_back(made, state)
         if number:
-            self.assertEqual((state.bits, state.tags, state.history, state.registers), before)
+            self.assertEqual(contents(state), before)
         return number
 
     def test_registers(self):

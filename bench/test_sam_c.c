@@ -1,5 +1,5 @@
-/* Tests of the C library through sam.h: the complaint of document 01, that of request b, and samples of every refusal.
- * One line for each check. */
+/* Tests of the C library through sam.h: the complaint of document 01, those of requests b and d, and samples of every
+ * refusal. One line for each check. */
 #include <stdbool.h>
 #include <stdio.h>
 #include <string.h>
@@ -228,6 +228,128 @@ static void test_equal_back(void) {
     check("  U", 4, registers[SAM_U]);
 }
 
+/* ---- request d: an address went past 32 bits and came round to a legal cell */
+
+/* Cell 0 holds INT 5. An address of 0 goes past an end of 32 bits and comes round to 0, where it would be used; but the
+ * ADD or SUB that goes past is refused, after these steps. */
+static const struct { const char *source; uint64_t steps; } wrapping_addresses[] = {
+    {"PUSHIMM 5 PUSHFBR PUSHIMM -2147483648 ADD PUSHIMM -2147483648 ADD PUSHIND", 5},
+    {"PUSHIMM 5 PUSHFBR PUSHIMM 2147483647 ADD PUSHIMM 2147483647 ADD PUSHIMM 2 ADD PUSHIND", 5},
+    {"PUSHIMM 5 PUSHFBR PUSHIMM -2147483648 ADD PUSHIMM -2147483648 ADD PUSHIMM 9 STOREIND", 5},
+    {"PUSHIMM 5 PUSHFBR PUSHIMM -2147483648 ADD PUSHIMM -2147483648 ADD POPFBR", 5},
+    {"PUSHIMM 5 PUSHFBR PUSHIMM -2147483648 ADD PUSHIMM -2147483648 ADD POPSP", 5},
+    {"PUSHIMM 5 PUSHFBR PUSHIMM 2147483647 SUB PUSHIMM 2147483647 SUB PUSHIMM 2 SUB PUSHIND", 5},
+    {"PUSHIMM 5 PUSHFBR PUSHIMM -2147483648 SUB PUSHIMM -2147483648 SUB PUSHIND", 3},
+    {"PUSHIMM 5 PUSHFBR PUSHIMM -2147483648 SUB PUSHIMM -2147483648 SUB PUSHIMM 9 STOREIND", 3},
+};
+
+/* All that a call may change, as it was. */
+static struct {
+    uint64_t registers[SAM_REGISTERS], history[SAM_HISTORY_LIMIT];
+    uint32_t bits[SAM_CELL_LIMIT];
+    uint8_t tags[SAM_CELL_LIMIT];
+} kept;
+
+static void keep(void) {
+    memcpy(kept.registers, registers, sizeof kept.registers);
+    memcpy(kept.history, history, sizeof kept.history);
+    memcpy(kept.bits, bits, sizeof kept.bits);
+    memcpy(kept.tags, tags, sizeof kept.tags);
+}
+
+static void check_kept(const char *name) {
+    check(name, 0, (uint64_t)(memcmp(kept.registers, registers, sizeof kept.registers) != 0));
+    check(name, 0, (uint64_t)(memcmp(kept.history, history, sizeof kept.history) != 0));
+    check(name, 0, (uint64_t)(memcmp(kept.bits, bits, sizeof kept.bits) != 0));
+    check(name, 0, (uint64_t)(memcmp(kept.tags, tags, sizeof kept.tags) != 0));
+}
+
+/* Where a step is refused at an ADD or SUB: nothing changes, however it is asked for. */
+static void check_sum_refused(uint64_t steps) {
+    keep();
+    check("  step", 6, step());
+    check("  run", 6, run(100));
+    check("  steps of that run", 0, told[0]);
+    check_kept("  nothing changed");
+    check("  PC", steps, registers[SAM_PC]);
+    check("  SP", 3, registers[SAM_SP]);
+    check_cell("  cell 0", 0, SAM_INT, 5);
+    check("  tag of the address", SAM_MA, tags[1]);
+}
+
+/* The step before, which pushed an INT, is taken back and made again. */
+static void check_back_and_again(uint64_t steps) {
+    uint64_t used = registers[SAM_U];
+    check("  step-back", 0, step_back());
+    check("  PC", steps - 1, registers[SAM_PC]);
+    check("  SP", 2, registers[SAM_SP]);
+    check("  U", used - 2, registers[SAM_U]);
+    check("  freed place", 0, history[used - 1]);
+    check("  step", 0, step());
+    check("  step", 6, step());
+    check_kept("  as before the step-back");
+}
+
+static void test_wrapping_addresses(void) {
+    for (size_t i = 0; i < sizeof wrapping_addresses / sizeof wrapping_addresses[0]; i++) {
+        uint64_t steps = wrapping_addresses[i].steps;
+        for (size_t places = 0; places <= 64; places += 64) {
+            printf("%s, H = %zu\n", wrapping_addresses[i].source, places);
+            begin(wrapping_addresses[i].source, 16, places);
+            check("  run", 6, run(100));
+            check("  steps", steps, told[0]);
+            check_sum_refused(steps);
+            if (places > 0) check_back_and_again(steps);
+            else check("  step-back with H = 0", 9, step_back());
+        }
+    }
+}
+
+/* FBR is 0, so these are the MAs at both ends and below 0; then the INT, and what the sum or difference leaves. */
+#define GREATEST "PUSHFBR PUSHIMM 2147483647 ADD "
+#define LEAST "PUSHFBR PUSHIMM -2147483648 ADD "
+#define BELOW_ZERO "PUSHFBR PUSHIMM 1 SUB "
+#define NEXT_BELOW "PUSHFBR PUSHIMM 2 SUB "
+
+static const struct { const char *source; uint32_t number; uint8_t tag; uint32_t left; } sums[] = {
+    {GREATEST "PUSHIMM 0 ADD STOP", 0, SAM_MA, 0x7FFFFFFF},
+    {GREATEST "PUSHIMM 1 ADD STOP", 6, SAM_MA, 0x7FFFFFFF},
+    {GREATEST "PUSHIMM -2147483648 ADD STOP", 0, SAM_MA, 0xFFFFFFFF},
+    {GREATEST "PUSHIMM 0 SUB STOP", 0, SAM_MA, 0x7FFFFFFF},
+    {GREATEST "PUSHIMM -1 SUB STOP", 6, SAM_MA, 0x7FFFFFFF},
+    {GREATEST "PUSHIMM 2147483647 SUB STOP", 0, SAM_MA, 0},
+    {LEAST "PUSHIMM 0 ADD STOP", 0, SAM_MA, 0x80000000},
+    {LEAST "PUSHIMM -1 ADD STOP", 6, SAM_MA, 0x80000000},
+    {LEAST "PUSHIMM 2147483647 ADD STOP", 0, SAM_MA, 0xFFFFFFFF},
+    {LEAST "PUSHIMM 0 SUB STOP", 0, SAM_MA, 0x80000000},
+    {LEAST "PUSHIMM 1 SUB STOP", 6, SAM_MA, 0x80000000},
+    {LEAST "PUSHIMM -2147483648 SUB STOP", 0, SAM_MA, 0},
+    {BELOW_ZERO "PUSHIMM -2147483647 ADD STOP", 0, SAM_MA, 0x80000000},
+    {BELOW_ZERO "PUSHIMM -2147483648 ADD STOP", 6, SAM_MA, 0xFFFFFFFF},
+    {BELOW_ZERO "PUSHIMM 2147483647 SUB STOP", 0, SAM_MA, 0x80000000},
+    {BELOW_ZERO "PUSHIMM -2147483648 SUB STOP", 0, SAM_MA, 0x7FFFFFFF},
+    {NEXT_BELOW "PUSHIMM 2147483647 SUB STOP", 6, SAM_MA, 0xFFFFFFFE},
+    {"PUSHFBR PUSHIMM 2147483647 ADD STOP", 0, SAM_MA, 0x7FFFFFFF},
+    {"PUSHFBR PUSHIMM -2147483648 ADD STOP", 0, SAM_MA, 0x80000000},
+    {"PUSHFBR PUSHIMM -2147483647 SUB STOP", 0, SAM_MA, 0x7FFFFFFF},
+    {"PUSHFBR PUSHIMM -2147483648 SUB STOP", 6, SAM_MA, 0},
+    {"PUSHIMM 2147483647 PUSHIMM 1 ADD STOP", 0, SAM_INT, 0x80000000}, /* two INTs wrap */
+    {"PUSHIMM -2147483648 PUSHIMM -1 ADD STOP", 0, SAM_INT, 0x7FFFFFFF},
+    {"PUSHIMM -2147483648 PUSHIMM -2147483648 ADD STOP", 0, SAM_INT, 0},
+    {"PUSHIMM -2147483648 PUSHIMM 1 SUB STOP", 0, SAM_INT, 0x7FFFFFFF},
+    {"PUSHIMM 2147483647 PUSHIMM -1 SUB STOP", 0, SAM_INT, 0x80000000},
+    {"PUSHIMM 0 PUSHIMM -2147483648 SUB STOP", 0, SAM_INT, 0x80000000},
+};
+
+static void test_sums(void) {
+    for (size_t i = 0; i < sizeof sums / sizeof sums[0]; i++) {
+        printf("%s\n", sums[i].source);
+        begin(sums[i].source, 16, 0);
+        check("  run", sums[i].number, run(100));
+        check_cell("  cell 0", 0, sums[i].tag, sums[i].left);
+    }
+}
+
 /* ---- told and registers of another length */
 
 static uint32_t run_with(size_t registers_len, size_t told_len) {
@@ -284,6 +406,12 @@ static void test_steps(void) {
     ends("PUSHIMM 1 PUSHIMM 0 DIV", 16, 0, 5, 2);
     ends("PUSHIMMF #7F800001 DUP CMPF", 16, 0, 5, 2);
     ends("PUSHSP PUSHIND", 16, 0, 6, 1);
+    ends(GREATEST "ADD", 16, 0, 3, 3);
+    ends("PUSHIMM 2147483647 " GREATEST "ADD", 16, 0, 4, 4);
+    ends(GREATEST "PUSHIMM 0 ADD", 16, 9, 8, 4);
+    ends(GREATEST "PUSHIMM 1 ADD", 16, 9, 6, 4);
+    ends(LEAST "PUSHIMM 0 SUB", 16, 9, 8, 4);
+    ends(LEAST "PUSHIMM 1 SUB", 16, 9, 6, 4);
     ends("PUSHIMM 1 PUSHIMM 1", 2, 0, 7, 1);
     ends("ADDSP 4", 4, 0, 7, 0);
     ends("PUSHIMM 1 PUSHIMM 2", 16, 3, 8, 1);
@@ -487,6 +615,8 @@ int main(void) {
     test_float_branches();
     test_single_tests();
     test_equal_back();
+    test_wrapping_addresses();
+    test_sums();
     test_lengths();
     test_steps();
     test_reset();

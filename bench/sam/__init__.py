@@ -1,4 +1,4 @@
-"""An interpreter of document 01 with requests a and b of document 02, written from the documents and their settled
+"""An interpreter of document 01 with requests a, b and d of document 02, written from the documents and their settled
 readings, to compare the proved one with."""
 
 from .console import cell_line, console

@@ -1,4 +1,4 @@
-"""What each instruction does: document 01, "Instructions", and request b of document 02.
+"""What each instruction does: document 01, "Instructions", and requests b and d of document 02.
 
 An action works on a Move: it takes values off, puts results on, and notes the cells it would write. Nothing of the
 machine changes until the whole step is accepted, so an action may refuse at any point.
@@ -59,6 +59,13 @@ def check_address(address, limit):
     return address
 
 
+def check_moved_address(exact):
+    """ "refused when the exact result [...] is not within -2^31 to 2^31-1"; "6 now covers this case" """
+    if not -(2**31) <= exact <= 2**31 - 1:
+        raise Refusal(6)
+    return exact
+
+
 # ---- results of values
 
 
@@ -83,11 +90,12 @@ def integer_test(operation):
 
 
 def sum_result(operation):
-    """ "ADD and SUB also take Vb MA with Vt INT and give MA." """
+    """ "ADD and SUB also take Vb MA with Vt INT and give MA." "Two INTs still wrap." """
 
     def action(move):
         (tag, below), (_, top) = move.pop((INT, MA), (INT,))
-        move.push(tag, operation(below, top))
+        exact = operation(signed(below), signed(top))
+        move.push(tag, check_moved_address(exact) if tag == MA else exact)
 
     return action
 
