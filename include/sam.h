@@ -1,6 +1,7 @@
 /* The SaM machine for C: every call of the proved library, with numbers and lent memory only.
  *
- * Link target/staticlib/libsam_c.a. Every call gives a number of document 01, or of request a (24, 33):
+ * Link target/staticlib/libsam_c.a. Every call gives a number of document 01, with what requests a (24, 33) and d (6)
+ * add:
  *
  *    0  done, or a run found HALT 1
  *    1  step with HALT 1
@@ -8,7 +9,7 @@
  *    3  fewer values than needed, or ADDSP below 0
  *    4  a value has a tag the instruction does not take
  *    5  DIV or MOD by zero, or CMPF with a NaN
- *    6  address outside the instruction's range
+ *    6  address outside the instruction's range, or ADD or SUB of an MA that leaves 32 bits
  *    7  new SP would be N or more
  *    8  H above 0 and fewer than (cells written + 1) places free
  *    9  step-back with U = 0
