@@ -58,9 +58,13 @@ module _ (b : ℕ) where
   unfolding allowed
   allowed-3 h k l = rw (h, ne-eqb b 45 k, eq-eqb b 35 l)
 
-  pub allowed-4 : wordByte b ≡ false → (b ≡ 45 → ⊥) → (b ≡ 35 → ⊥) → allowed b ≡ eqb b 58
+  pub allowed-4 : wordByte b ≡ false → (b ≡ 45 → ⊥) → (b ≡ 35 → ⊥) → b ≡ 58 → allowed b ≡ true
   unfolding allowed
-  allowed-4 h k l = rw (h, ne-eqb b 45 k, ne-eqb b 35 l)
+  allowed-4 h k l m = rw (h, ne-eqb b 45 k, ne-eqb b 35 l, eq-eqb b 58 m)
+
+  pub allowed-5 : wordByte b ≡ false → (b ≡ 45 → ⊥) → (b ≡ 35 → ⊥) → (b ≡ 58 → ⊥) → allowed b ≡ eqb b 46
+  unfolding allowed
+  allowed-5 h k l m = rw (h, ne-eqb b 45 k, ne-eqb b 35 l, ne-eqb b 58 m)
 
 module _ (t : List ℕ) (i : ℕ) where
   pub run-end : length t ≤ i → allowedRun (drop i t) ≡ 0

@@ -66,7 +66,7 @@ module _ (src table labels : List ℕ) (s : Held) (ht : length table ≡ maxProg
   kept-long start len fits k = label-long (stateOf src table labels s) start (piece src start len) (rw (length-piece src start len fits) k)
 
 module _ (src table labels : List ℕ) (s : Held) (ht : length table ≡ maxProgram) (h : Well s) where
-  pub keep-item : (w : ℕ) → s .n < maxProgram → withItem (stateOf src table labels s) (itemAt src w) ≡ stateOf src (set table (s .n) w) labels (record { n = s .n + 1; m = s .m; wait = 50 })
+  pub keep-item : (w : ℕ) → s .n < maxProgram → withItem (stateOf src table labels s) (itemAt src w) ≡ stateOf src (set table (s .n) w) labels (record { n = s .n + 1; m = s .m; wait = codes })
   unfolding stateOf awaitedOf
   keep-item w k =
       let a : s .n < length table = omega arith in
@@ -76,7 +76,7 @@ module _ (src table labels : List ℕ) (s : Held) (ht : length table ≡ maxProg
   unfolding stateOf
   len-items = length-items src table (s .n) (omega (arith, h .few))
 
-  pub kept-name : (start code : ℕ) → code < codes → s .n < maxProgram → awaits (kindOf code) ≡ false → newName (stateOf src table labels s) start code ≡ go (stateOf src (set table (s .n) (code * 2 ^ 32)) labels (record { n = s .n + 1; m = s .m; wait = 50 }))
+  pub kept-name : (start code : ℕ) → code < codes → s .n < maxProgram → awaits (kindOf code) ≡ false → newName (stateOf src table labels s) start code ≡ go (stateOf src (set table (s .n) (code * 2 ^ 32)) labels (record { n = s .n + 1; m = s .m; wait = codes }))
   kept-name start code a d e =
       let z : code * 2 ^ 32 ≡ placeOf code 0 = omega arith in
       let i : itemAt src (code * 2 ^ 32) ≡ finished (placeOf code 0) = ap (itemAt src) z ∙ item-word src 0 code 0 (omega arith) (omega arith) (omega arith) in
@@ -93,7 +93,7 @@ module _ (src table labels : List ℕ) (s : Held) (ht : length table ≡ maxProg
   pub kept-wait : (start code : ℕ) → code < codes → s .n < maxProgram → awaits (kindOf code) ≡ true → newName (stateOf src table labels s) start code ≡ go (stateOf src table labels (record { n = s .n; m = s .m; wait = code }))
   kept-wait start code a d e = name-waits (stateOf src table labels s) start code a (rw len-items d) e ∙ ap go (same-state code a)
 
-  pub kept-operand : (start w : ℕ) (x : Reading) → s .n < maxProgram → x ≡ item (itemAt src w) → newOperand (stateOf src table labels s) start x ≡ go (stateOf src (set table (s .n) w) labels (record { n = s .n + 1; m = s .m; wait = 50 }))
+  pub kept-operand : (start w : ℕ) (x : Reading) → s .n < maxProgram → x ≡ item (itemAt src w) → newOperand (stateOf src table labels s) start x ≡ go (stateOf src (set table (s .n) w) labels (record { n = s .n + 1; m = s .m; wait = codes }))
   kept-operand start w x d e = ap (newOperand (stateOf src table labels s) start) e ∙ ap go (keep-item w d)
 
   pub kept-bad : (start : ℕ) (k : TextRefusal) (x : Reading) → x ≡ bad k → newOperand (stateOf src table labels s) start x ≡ stop k start

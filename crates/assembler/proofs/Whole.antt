@@ -3,6 +3,7 @@ use Prim.Native.Nat.{ℕ}
 use mathlib.Core.Path.{_≡_, refl, _∙_, ap}
 use mathlib.Core.List.{List, [], _∷_}
 use lib.ListN.{length}
+use Rattle.rules.specs.Instructions.{codes}
 use Rattle.rules.specs.Tokens.{Token}
 use Rattle.rules.specs.Assemble.{instruction, operandFor, Progress, go, stop, judgeToken, refused, join, settle, finish, after, judge, translated}
 use Rattle.rules.specs.declared.TextRefusal.{TextRefusal}
@@ -25,7 +26,7 @@ module _ (size : ℕ) (s : Progress) (ts : List Token) where
   judge-stop t rest k at e h = ap (judge size s) e ∙ ap (after (λ s′. judge size s′ rest)) h
 
 -- before the first token
-pub starts : (src table labels : List ℕ) → translated src ≡ judge (length src) (stateOf src table labels (record { n = 0; m = 0; wait = 50 })) (from src 0)
+pub starts : (src table labels : List ℕ) → translated src ≡ judge (length src) (stateOf src table labels (record { n = 0; m = 0; wait = codes })) (from src 0)
 unfolding translated stateOf itemsOf labelsOf awaitedOf from
 starts src table labels = refl
 

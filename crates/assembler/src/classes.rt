@@ -47,7 +47,10 @@ fn is_allowed(b: u8) -> bool
     if b == b'#' {
         return true;
     }
-    b == b':'
+    if b == b':' {
+        return true;
+    }
+    b == b'.'
 }
 
 // How many allowed bytes stand in front.

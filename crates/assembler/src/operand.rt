@@ -36,13 +36,13 @@ pub(crate) const START_SPAN: u64 = 0x10_0000;
 
 pub(crate) const CODE_SPAN: u64 = 0x100;
 
-// An operand that is no number, bits or label where one is awaited.
+// An operand that is no number, bits, decimal or label where one is awaited.
 const WRONG_FORM: Got = Got::Bad(TextRefusal::OperandForm);
 
 // The highest number target that a program can be long enough for.
 const MAX_TARGET: u32 = sizes::MAX_PROGRAM as u32;
 
-// A number or bits: the table's place is known at once.
+// A number, bits or a decimal: the table's place is known at once.
 fn plain_word(code: usize, v: Numeral) -> Got
     requires { ⌜ code < codes ⌝ }
     ensures { λ r. ⌜ ((src : List ℕ) → Says src (plainNumber code v) r) ⌝ }
@@ -103,7 +103,7 @@ pub(crate) fn read_operand(src: &[u8], code: usize, start: usize, end: usize) ->
     match kind {
         Kind::Bare => WRONG_FORM,
         Kind::Immediate => plain_word(code, operands::number_of(t, words::LOWEST, words::HIGHEST)),
-        Kind::Pattern => plain_word(code, operands::pattern_of(t)),
+        Kind::Pattern => plain_word(code, operands::float_of(t)),
         Kind::Offset => plain_word(
             code,
             operands::number_of(t, sizes::MAX_OFFSET, sizes::MAX_OFFSET),

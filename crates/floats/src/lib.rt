@@ -7,8 +7,14 @@ ghost use Rattle.rules.specs.Floats.{plusF, minusF, timesF, quotientF, unordere
 ghost use Rattle.nearest.specs.Equal.{isZero};
 use word::tests::sense;
 
+pub mod conversions;
+pub mod rounding;
+
 // The bit of the sign.
-const SIGN: u32 = 0x8000_0000;
+pub(crate) const SIGN: u32 = 0x8000_0000;
+
+// What 1 counts for in the field of the exponent.
+pub(crate) const EXPONENT_WEIGHT: u32 = 0x80_0000;
 
 // The bits of an infinity.
 const INFINITY: u32 = 0x7f80_0000;

@@ -139,12 +139,12 @@ fn list_short(place: u64, n: usize) {
     list_place(place, n, &mut text);
 }
 
-// The lister's refusals: an output one byte short, before a broken table; a code above 49; a target behind the end; an operand of STOP; a place
+// The lister's refusals: an output one byte short, before a broken table; a code above 51; a target behind the end; an operand of STOP; a place
 // that is used and is not in the program.
 fn refusals() {
     list_short(0, 1);
-    list_short(0x32_0000_0000, 1);
-    list_one(0x32_0000_0000, 1);
+    list_short(0x34_0000_0000, 1);
+    list_one(0x34_0000_0000, 1);
     list_one(0x2c_0000_0001, 1);
     list_one(0x2c_0000_0002, 1);
     list_one(1, 1);

@@ -7,7 +7,7 @@ use native.Mathlib.Omega.{arith}
 use lib.Arith.{lt-of-le-ne}
 use lib.Dec.{ltb, eqb}
 use borrow.Author.Tests.{lt-leb, le-ltb, ne-eqb}
-use Rattle.rules.specs.Instructions.{Action, stop, pushInt, pushFloat, pushPa, dup, swap, sums, ints, divides, floats, compareFloats, one, equal, isNil, pushSp, popSp, pushFbr, popFbr, link, addSp, pushInd, storeInd, pushOff, storeOff, jump, jumpC, jumpInd, jsr, jsrInd, rows, rowOf, actionOf}
+use Rattle.rules.specs.Instructions.{Action, stop, pushInt, pushFloat, pushPa, dup, swap, sums, ints, divides, floats, compareFloats, one, toFloat, toInt, equal, isNil, pushSp, popSp, pushFbr, popFbr, link, addSp, pushInd, storeInd, pushOff, storeOff, jump, jumpC, jumpInd, jsr, jsrInd, codes, rows, rowOf, actionOf}
 use Rattle.rules.specs.State.{Memory}
 use Rattle.rules.specs.Decide.{onValues}
 use Rattle.rules.specs.declared.Cell.{Cell}
@@ -34,11 +34,11 @@ beside : (A : Type 0) (k n x : ℕ) → Rest A k n x → A
 beside A k zero x r = r
 beside A k (suc n) x r = beside A k n x (r .0)
 
--- 0 to 4, 19, 25 and 31 to 49 have an arm of their own; what is left are the pairs
-pub left-over : (x : ℕ) → x < 50 → Rest (Rest (Rest (Rest (Unit {0}) 0 5 x) 19 1 x) 25 1 x) 31 19 x → Paired x
+-- 0 to 4, 19, 25 and 31 to 51 have an arm of their own; what is left are the pairs
+pub left-over : (x : ℕ) → x < codes → Rest (Rest (Rest (Rest (Unit {0}) 0 5 x) 19 1 x) 25 1 x) 31 21 x → Paired x
 left-over x few r =
-    let ones = beside (Rest (Rest (Rest (Unit {0}) 0 5 x) 19 1 x) 25 1 x) 31 19 x r in
-    let high : 31 ≤ x → ⊥ = λ h. let l = past (Rest (Rest (Rest (Unit {0}) 0 5 x) 19 1 x) 25 1 x) 31 19 x r h in omega (arith, l, few) in
+    let ones = beside (Rest (Rest (Rest (Unit {0}) 0 5 x) 19 1 x) 25 1 x) 31 21 x r in
+    let high : 31 ≤ x → ⊥ = λ h. let l = past (Rest (Rest (Rest (Unit {0}) 0 5 x) 19 1 x) 25 1 x) 31 21 x r h in omega (arith, l, few) in
     (past (Unit {0}) 0 5 x (ones .0 .0) zero-le, omega (arith, high), ones .0 .1, ones .1)
 
 -- of the pairs all but ADD have an arm of their own
@@ -71,6 +71,8 @@ takesTwo pushPa = false
 takesTwo dup = false
 takesTwo swap = false
 takesTwo (one f) = false
+takesTwo toFloat = false
+takesTwo toInt = false
 takesTwo isNil = false
 takesTwo pushSp = false
 takesTwo popSp = false
@@ -115,6 +117,8 @@ module _ (r : Registers) (m : Memory) (n : ℕ) (vb vt : Cell) (few : r .sp < 2)
   two-few dup h = absurd (false≢true h)
   two-few swap h = absurd (false≢true h)
   two-few (one f) h = absurd (false≢true h)
+  two-few toFloat h = absurd (false≢true h)
+  two-few toInt h = absurd (false≢true h)
   two-few isNil h = absurd (false≢true h)
   two-few pushSp h = absurd (false≢true h)
   two-few popSp h = absurd (false≢true h)

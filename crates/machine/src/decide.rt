@@ -1,4 +1,4 @@
-// What the instruction at a table's place decides: the one dispatch over the fifty codes, each to its family. Cells are read where they are used.
+// What the instruction at a table's place decides: the one dispatch over the codes, each to its family. Cells are read where they are used.
 ghost use mathlib.Core.Path.{_≡_};
 ghost use mathlib.Core.List.{[]};
 ghost use Prim.Native.Nat.{ℕ, _≤_, _<_};
@@ -121,6 +121,8 @@ fn by_code(code: usize, n: u32, r: Registers, bits: &[u32], tags: &[u8]) -> Plan
         codes::JSR => families::on_jsr(r, n),
         codes::JSRIND => families::on_jsr_ind(r, cells::top(r, bits, tags)),
         codes::PUSHIMMPA => families::on_push(r, cells::program_cell(n)),
+        codes::ITOF => families::on_to_float(r, cells::top(r, bits, tags)),
+        codes::FTOI => families::on_to_int(r, cells::top(r, bits, tags)),
         _ => on_two(code, r, bits, tags),
     }
 }

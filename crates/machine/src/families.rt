@@ -7,7 +7,7 @@ ghost use mathlib.Core.Bool.{not};
 ghost use lib.IntN.{ℤ};
 ghost use Rattle.rules.specs.Words.{word, inWord, bit, holds, bitNot, less};
 ghost use Rattle.rules.specs.State.{Memory, cellAt};
-ghost use Rattle.rules.specs.Decide.{result, jumped, called, programAddress, onDup, onSwap, onSums, onInts, onDivides, onFloats, onCompareFloats, onOne, sameValue, agree, onEqual, onIsNil, onPopSp, onPopFbr, onJumpC, onJumpInd, onJsrInd};
+ghost use Rattle.rules.specs.Decide.{result, jumped, called, programAddress, onDup, onSwap, onSums, onInts, onDivides, onFloats, onCompareFloats, onOne, onToFloat, onToInt, sameValue, agree, onEqual, onIsNil, onPopSp, onPopFbr, onJumpC, onJumpInd, onJsrInd};
 ghost use Rattle.machine.specs.Small.{Small};
 ghost use Rattle.machine.specs.Plan.{planned, Means};
 use crate::addresses;
@@ -169,6 +169,39 @@ pub(crate) fn on_is_neg(r: Registers, top: Cell) -> Plan
     ensures { λ d. ⌜ Means r d (onOne (bit (less (top .bits) 0)) r top) ⌝ }
 {
     on_one(word::tests::is_neg(top.bits), r, top)
+}
+
+// An INT, and the nearest FLOAT as the result.
+pub(crate) fn on_to_float(r: Registers, top: Cell) -> Plan
+    requires { ⌜ Small r ⌝ }
+    ensures { λ d. ⌜ Means r d (onToFloat r top) ⌝ }
+{
+    if r.sp < 1 {
+        return TOO_FEW_VALUES;
+    }
+    if top.tag != tags::INT {
+        return WRONG_TAG;
+    }
+    let v = floats::conversions::int_to_f(top.bits);
+    plans::result(r, 1, float_cell(v))
+}
+
+// A FLOAT that is cut to an INT, and that INT as the result.
+pub(crate) fn on_to_int(r: Registers, top: Cell) -> Plan
+    requires { ⌜ Small r ⌝ }
+    ensures { λ d. ⌜ Means r d (onToInt r top) ⌝ }
+{
+    if r.sp < 1 {
+        return TOO_FEW_VALUES;
+    }
+    if top.tag != tags::FLOAT {
+        return WRONG_TAG;
+    }
+    if !floats::conversions::has_int(top.bits) {
+        return NO_RESULT;
+    }
+    let v = floats::conversions::cut(top.bits);
+    plans::result(r, 1, int_cell(v))
 }
 
 // Whether two words that both have the tag are the same value: FLOATs by IEEE 754, others by their bits.

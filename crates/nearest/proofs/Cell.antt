@@ -13,7 +13,8 @@ use lib.Ieee.Bits.{ofBits-toBits, toBits-lt}
 use lib.Ieee.Exact.{HasValue, odd-sign}
 use lib.Ieee.Fits.{down-pos}
 use lib.Ieee.Scale.{finite}
-use Rattle.nearest.specs.Nearest.{negative, exponent, fraction, Finite, scale, scaled, magnitude}
+use Rattle.rules.specs.Exact.{negative, exponent, fraction, scale, scaled, magnitude}
+use Rattle.nearest.specs.Nearest.{Finite}
 
 -- ---- reading
 

@@ -12,7 +12,8 @@ use lib.Signed.{ltZ}
 use lib.Ieee.{Float, binary32, round, ofBits, toBits}
 use Rattle.rules.specs.Floats.{rounded, plusF, minusF, timesF, quotientF, orderedF, equalF}
 use Rattle.rules.specs.Words.{sense}
-use Rattle.nearest.specs.Nearest.{negative, Finite, scale, magnitude, exact, signOr, infinity, Rounded, RoundedSigned}
+use Rattle.rules.specs.Exact.{negative, scale, magnitude, exact}
+use Rattle.nearest.specs.Nearest.{Finite, signOr, infinity, Rounded, RoundedSigned}
 use Rattle.nearest.proofs.Cell.{value-read}
 use Rattle.nearest.proofs.Nearest.{infinity-bits}
 use Rattle.nearest.proofs.Unique.{round-rounded}

@@ -6,7 +6,8 @@ use lib.IntN.{pos, negℤ, _*ℤ_}
 use mathlib.Core.Bool.{true, false}
 use lib.Dec.{lit<}
 use lib.Ieee.{round, toBits}
-use Rattle.nearest.specs.Nearest.{scale, magnitude, exact, midpoint, Rounded}
+use Rattle.rules.specs.Exact.{scale, magnitude, exact}
+use Rattle.nearest.specs.Nearest.{midpoint, Rounded}
 use Rattle.nearest.specs.Equal.{sameFloat}
 use Rattle.nearest.proofs.Unique.{round-rounded}
 

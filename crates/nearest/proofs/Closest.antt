@@ -1,13 +1,14 @@
 -- `closest a u`, by which `round` picks its digits, is the whole number nearest to a / u, and at a tie the even one. Assumes nothing.
-use mathlib.Core.Path.{_≡_, sym, subst}
+use mathlib.Core.Path.{_≡_, refl, sym, subst}
 use mathlib.Core.Logic.{_⊎_, inl, inr}
 use mathlib.Core.Bool.{not}
 use Prim.Native.Nat.{ℕ, suc, _+_, _*_, _/_, _%_, _≤_, _<_, compare, Ordering, Ordering·lt, Ordering·eq, Ordering·gt}
-use native.Mathlib.Nat.{mul-le-mul-right, suc-mul, div-add-mod', mod-lt, eq-or-lt-of-le}
+use native.Mathlib.Nat.{le-trans, div-lt-iff-lt-mul, mul-le-mul-right, suc-mul, div-add-mod', mod-lt, eq-or-lt-of-le}
 use native.Mathlib.Omega.{arith}
 use lib.Dec.{T, isLe, isEq, eqb, leb→le, nleb→lt, eqb→eq, eqb-refl}
 use lib.Arith.{lt-of-le-ne}
 use lib.Ieee.{nearest}
+use lib.Ieee.Fits.{nearest-le}
 use lib.Ieee.Nearest.{closest}
 use Rattle.nearest.specs.Nearest.{apart}
 use Rattle.nearest.proofs.Order.{either-way}
@@ -89,7 +90,7 @@ module _ (a u w r c : ℕ) (is : w * u + r ≡ a) (small : r < u) where
   nearest-tie Ordering·eq h t = inr (omega arith)
   nearest-tie Ordering·gt h t = inl (next-only h t)
 
--- ---- the two laws
+-- ---- the laws
 
 -- no whole number of u's is nearer to a
 pub closest-beats : (a u c : ℕ) → 0 < u → apart (closest a u * u) a ≤ apart (c * u) a
@@ -99,3 +100,33 @@ closest-beats a u c h = nearest-beats a u (a / u) (a % u) c (div-add-mod' a u) (
 -- one that is as near is the same, or this one is even
 pub closest-tie : (a u c : ℕ) → 0 < u → apart (c * u) a ≤ apart (closest a u * u) a → (c ≡ closest a u) ⊎ (closest a u % 2 ≡ 0)
 closest-tie a u c h = nearest-tie a u (a / u) (a % u) c (div-add-mod' a u) (mod-lt a h) (compare (a % u * 2) u) (compared (a % u * 2) u)
+
+-- it is found by the rest: below a half, above it, and at it
+module _ (a u : ℕ) where
+  pub closest-below : a % u * 2 < u → closest a u ≡ a / u
+  closest-below h = go (compare (a % u * 2) u) (compared (a % u * 2) u)
+    where
+      go : (o : Ordering) → Compared o (a % u * 2) u → nearest (a / u) o ≡ a / u
+      go Ordering·lt k = refl
+      go Ordering·eq k = absurd (omega arith)
+      go Ordering·gt k = absurd (omega arith)
+
+  pub closest-above : u < a % u * 2 → closest a u ≡ a / u + 1
+  closest-above h = go (compare (a % u * 2) u) (compared (a % u * 2) u)
+    where
+      go : (o : Ordering) → Compared o (a % u * 2) u → nearest (a / u) o ≡ a / u + 1
+      go Ordering·lt k = absurd (omega arith)
+      go Ordering·eq k = absurd (omega arith)
+      go Ordering·gt k = omega arith
+
+  pub closest-half : a % u * 2 ≡ u → closest a u ≡ a / u + a / u % 2
+  closest-half h = go (compare (a % u * 2) u) (compared (a % u * 2) u)
+    where
+      go : (o : Ordering) → Compared o (a % u * 2) u → nearest (a / u) o ≡ a / u + a / u % 2
+      go Ordering·lt k = absurd (omega arith)
+      go Ordering·eq k = refl
+      go Ordering·gt k = absurd (omega arith)
+
+-- below m u's it is at most m
+pub closest-most : (a u m : ℕ) → 0 < u → a < m * u → closest a u ≤ m
+closest-most a u m U h = le-trans (nearest-le (a / u) (compare (a % u * 2) u)) (div-lt-iff-lt-mul U .1 h)

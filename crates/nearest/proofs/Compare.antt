@@ -14,7 +14,7 @@ use lib.Ieee.{Float, nan, inf, fin, up, down, below, level, lt, eq}
 use lib.Ieee.Exact.{HasValue}
 use lib.Ieee.Fits.{down-pos}
 use Rattle.rules.proofs.Tests.{and-left, and-right, and-then}
-use Rattle.nearest.specs.Nearest.{withSign}
+use Rattle.rules.specs.Exact.{withSign}
 use Rattle.nearest.proofs.Fractions.{same-order, same-equal, same-sum, first-over, second-over}
 
 -- ---- order

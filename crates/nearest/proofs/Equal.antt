@@ -14,7 +14,8 @@ use Rattle.rules.specs.Tags.{float}
 use Rattle.rules.specs.Floats.{equalF}
 use Rattle.rules.specs.Decide.{agree, nil}
 use Rattle.rules.proofs.Tests.{by-test, either, or-left, or-right, and-left, and-right, and-then}
-use Rattle.nearest.specs.Nearest.{negative, fraction, Finite, magnitude, withSign, exact}
+use Rattle.rules.specs.Exact.{negative, fraction, magnitude, withSign, exact}
+use Rattle.nearest.specs.Nearest.{Finite}
 use Rattle.nearest.specs.Equal.{isNaN, isZero, sameFloat}
 use Rattle.nearest.proofs.Cell.{read-finite}
 use Rattle.nearest.proofs.Parts.{one-magnitude}

@@ -12,7 +12,7 @@ use lib.Ieee.Exact.{HasValue}
 use lib.Ieee.Fits.{up-pos, down-pos}
 use lib.Ieee.Scale.{round-same}
 use lib.Ieee.Positive.{first-pos}
-use Rattle.nearest.specs.Nearest.{withSign}
+use Rattle.rules.specs.Exact.{withSign}
 use Rattle.nearest.proofs.Fractions.{same-order, same-sum, same-difference, first-over, second-over, cross-quotient, zero-of}
 use Rattle.nearest.proofs.Sum.{roundOf, sum-exact}
 

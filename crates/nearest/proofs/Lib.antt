@@ -13,4 +13,7 @@ pub mod Exact
 pub mod Compare
 pub mod Cells
 pub mod Equal
+pub mod Placed
+pub mod Cut
+pub mod Conversions
 pub mod Checks

@@ -7,7 +7,8 @@ use lib.Ieee.{inf, binary32, round, toBits}
 use lib.Ieee.Fits.{two, two-le-pos, round-fits}
 use lib.Ieee.Order.{drop, kept}
 use lib.Ieee.Scale.{grid}
-use Rattle.nearest.specs.Nearest.{negative, Finite, scale, magnitude, AsNear, midpoint, infinity, IsNearest}
+use Rattle.rules.specs.Exact.{negative, scale, magnitude}
+use Rattle.nearest.specs.Nearest.{Finite, AsNear, midpoint, infinity, IsNearest}
 use Rattle.nearest.proofs.Order.{either-way}
 use Rattle.nearest.proofs.Grid.{grid-beats, grid-tie}
 use Rattle.nearest.proofs.Cell.{written-finite, written-sign, written-magnitude}
@@ -72,3 +73,8 @@ nearest-value s a c C = record {
   near = bits-near s a c C;
   even = bits-even s a c C;
 }
+
+-- below the midpoint their magnitude is what `round` keeps
+pub nearest-magnitude : (s : Bool) (a c : ℕ) → 0 < c → a < midpoint * c → magnitude (toBits binary32 (round binary32 s a c)) ≡ grid binary32 a c
+unfolding bits
+nearest-magnitude s a c C h = bits-magnitude s a c C h

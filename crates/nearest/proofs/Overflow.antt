@@ -13,7 +13,8 @@ use lib.Ieee.Exact.{HasValue, units-val}
 use lib.Ieee.Fits.{two, two-le-pos, round-is}
 use lib.Ieee.Order.{drop, kept, round-mono}
 use lib.Ieee.Scale.{grid, overflow, finite, round-val}
-use Rattle.nearest.specs.Nearest.{apart, midpoint, scale}
+use Rattle.rules.specs.Exact.{scale}
+use Rattle.nearest.specs.Nearest.{apart, midpoint}
 use Rattle.nearest.proofs.Order.{either-way}
 use Rattle.nearest.proofs.Cell.{value-finite}
 use Rattle.nearest.proofs.Grid.{grid-beats}

@@ -8,7 +8,7 @@ use lib.Pow.{pow-add, pow-pos, pow-mono}
 use lib.Ieee.Digits.{back}
 use lib.Ieee.Fits.{kept-lt, nearest-le}
 use lib.Ieee.Order.{drop, kept}
-use Rattle.nearest.specs.Nearest.{magnitude}
+use Rattle.rules.specs.Exact.{magnitude}
 use Rattle.nearest.proofs.Order.{either-way}
 use Rattle.nearest.proofs.Parts.{parts}
 

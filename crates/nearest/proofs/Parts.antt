@@ -8,7 +8,8 @@ use native.Mathlib.Nat.{le-trans, le-of-eq, lt-of-lt-of-le, lt-irrefl, le-of-suc
 use native.Mathlib.Omega.{arith}
 use lib.Pow.{pow-add, pow-pos, pow-mono}
 use borrow.Author.Tests.{leb-true, leb-false, le-leb, lt-leb}
-use Rattle.nearest.specs.Nearest.{negative, exponent, fraction, Finite, scaled, magnitude}
+use Rattle.rules.specs.Exact.{negative, exponent, fraction, scaled, magnitude}
+use Rattle.nearest.specs.Nearest.{Finite}
 use Rattle.nearest.proofs.Order.{either-way}
 
 -- ---- significand and power
@@ -54,7 +55,7 @@ scaled-fraction (suc e) f g h = mul-lt-mul-of-pos-right (omega arith) (pow-pos e
 lead : (f : ℕ) → f < 2 ^ 23 → 2 ^ 23 + f < 2 ^ 24
 lead f h = omega arith
 
-scaled-top : (e f : ℕ) → f < 2 ^ 23 → scaled e f < 2 ^ 23 * 2 ^ e
+pub scaled-top : (e f : ℕ) → f < 2 ^ 23 → scaled e f < 2 ^ 23 * 2 ^ e
 unfolding scaled
 scaled-top zero f h = h
 scaled-top (suc e) f h =

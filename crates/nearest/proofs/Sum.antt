@@ -7,7 +7,8 @@ use lib.Dec.{ltb}
 use lib.IntN.{ℤ, pos, negsuc, negℤ, natAbs, subℕ, _+ℤ_, +ℤ-comm, negℤ-+ℤ}
 use borrow.Author.Tests.{le-ltb, ltb-true, ltb-false}
 use lib.Ieee.{Float, Format, round, sum}
-use Rattle.nearest.specs.Nearest.{withSign, signOr}
+use Rattle.rules.specs.Exact.{withSign}
+use Rattle.nearest.specs.Nearest.{signOr}
 
 -- round of z / l, where z is a whole number with a sign, and zero has the sign s
 abbrev pub roundOf : Format → Bool → ℤ → ℕ → Float

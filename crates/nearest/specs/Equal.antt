@@ -3,11 +3,11 @@
 use Prim.Native.Nat.{ℕ}
 use mathlib.Core.Bool.{Bool, true, false, not, _&&_, _||_, cond}
 use lib.Dec.{eqb}
-use Rattle.nearest.specs.Nearest.{exponent, fraction}
+use Rattle.rules.specs.Exact.{exponent, fraction, noValue}
 
 -- a NaN has the exponent of the infinities, and a fraction that is not 0
 abbrev pub isNaN : ℕ → Bool
-isNaN b = eqb (exponent b) 255 && not (eqb (fraction b) 0)
+isNaN b = eqb (exponent b) noValue && not (eqb (fraction b) 0)
 
 -- "both zeros"
 abbrev pub isZero : ℕ → Bool

@@ -1,49 +1,23 @@
 -- Document 01, "Instructions": "each is rounded once, to binary32 (IEEE 754, nearest, ties to even). An exact finite value, here and in later
 -- requests, is a whole number over a whole number above 0, and nearness and order are judged by cross products of whole numbers."
--- What that says, of a cell's 32 bits and of whole numbers alone: nothing here is taken from a library of floats. Assumes nothing.
-use Prim.Native.Nat.{ℕ, zero, suc, _+_, _-_, _*_, _/_, _%_, _^_, _≤_, _<_}
+-- What that says, of a cell's 32 bits and of whole numbers alone: nothing here is taken from a library of floats. What the bits stand for is the rules'
+-- `Exact`. Assumes nothing.
+use Prim.Native.Nat.{ℕ, zero, suc, _+_, _-_, _*_, _%_, _^_, _≤_, _<_}
 use mathlib.Core.Path.{_≡_}
 use mathlib.Core.Logic.{_≢_}
-use mathlib.Core.Bool.{Bool, true, false, cond}
-use lib.Dec.{leb}
-use lib.IntN.{ℤ, pos, negsuc, negℤ, natAbs}
+use mathlib.Core.Bool.{Bool, true, false}
+use lib.IntN.{ℤ, pos, negsuc, natAbs}
+use Rattle.rules.specs.Exact.{negative, exponent, noValue, scale, magnitude}
 
--- ---- what a cell's bits stand for
+-- what the bit of a sign counts for
+abbrev pub signBit : Bool → ℕ
+signBit true = 2 ^ 31
+signBit false = 0
 
--- "binary32": from the top the sign's bit, 8 bits of exponent and 23 of fraction
-abbrev pub negative : ℕ → Bool
-negative b = leb (2 ^ 31) b
-
-abbrev pub exponent : ℕ → ℕ
-exponent b = b / 2 ^ 23 % 2 ^ 8
-
-abbrev pub fraction : ℕ → ℕ
-fraction b = b % 2 ^ 23
-
--- b is the bits of a finite value: the exponent 255 is that of the infinities and the NaNs
+-- b is the bits of a finite value: the infinities and the NaNs have none
 pub record Finite (b : ℕ) : Type 0 where
   pub cell : b < 2 ^ 32
-  pub field : exponent b < 255
-
--- "An exact finite value .. is a whole number over a whole number above 0": without its sign that of finite bits b is magnitude b / scale.
--- 1 / scale is the smallest value above 0. An exponent above 0 puts a leading digit 1 before the fraction; 0 puts none, and counts as 1.
-abbrev pub scale : ℕ
-scale = 2 ^ 149
-
-unfoldable pub scaled : ℕ → ℕ → ℕ
-scaled zero f = f
-scaled (suc e) f = (2 ^ 23 + f) * 2 ^ e
-
-unfoldable pub magnitude : ℕ → ℕ
-unfolding scaled
-magnitude b = scaled (exponent b) (fraction b)
-
--- with its sign it is exact b / scale
-abbrev pub withSign : Bool → ℕ → ℤ
-withSign s m = cond s (negℤ (pos m)) (pos m)
-
-abbrev pub exact : ℕ → ℤ
-exact b = withSign (negative b) (magnitude b)
+  pub field : exponent b < noValue
 
 -- ---- what the nearest value is
 

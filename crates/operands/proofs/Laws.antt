@@ -1,17 +1,19 @@
 -- Laws of number operands: a digit, the digits from a place of a text on, and the whole text.
 -- Assumes nothing.
-use mathlib.Core.Path.{_≡_, refl, ap, _∙_}
-use mathlib.Core.Bool.{true, false}
+use mathlib.Core.Path.{_≡_, refl, sym, ap, _∙_}
+use mathlib.Core.Bool.{true, false, false≢true}
 use mathlib.Core.List.{List, [], _∷_}
 use Prim.Native.Nat.{ℕ, suc, _+_, _*_, _-_, _^_, _≤_, _<_}
 use native.Mathlib.Numerals.{add-one}
 use native.Mathlib.Omega.{arith}
 use lib.Dec.{eqb, ltb}
-use lib.ListN.{length, drop, getD, drop-of-length-le, length-drop}
-use native.Mathlib.Nat.{suc-mul, mul-le-mul-right, pow-suc, mul-le-mul-left, pow-le-pow-right, lt-of-lt-of-le, add-zero}
+use lib.ListN.{length, take, drop, getD, drop-of-length-le, length-drop}
+use lib.Seq.{take-all}
+use native.Mathlib.Nat.{suc-mul, mul-le-mul-right, pow-zero, pow-suc, pow-succ', mul-one, zero-mul, add-mul, mul-assoc, mul-le-mul-left, pow-le-pow-right, lt-of-lt-of-le, add-zero}
 use Rattle.rules.specs.declared.Numeral.the-variants.{Value, WrongForm, OutOfRange}
 use borrow.Author.Tests.{ltb-true, eq-eqb, ne-eqb, le-leb, lt-leb, lt-ltb, le-ltb}
 use Rattle.rules.proofs.Tests.{drop-next, and-left, and-right}
+use Rattle.rules.proofs.Operands.{number-value}
 use Rattle.rules.specs.Operands.{digitOf, allDigits, numeral, isNumeral, signs, ranged, numberOf, patternOf}
 
 module _ (b : ℕ) where
@@ -83,30 +85,54 @@ numeral-below base n k (b ∷ s) h l =
     (numeral-below base (n * base + digitOf b) (k + 1) s (and-right (ltb (digitOf b) base) (allDigits base s) h)
     (rw (add-one, pow-suc) (omega (arith, suc-mul n base, mul-le-mul-right {m = suc n} {n = base ^ k} base l))))
 
-module _ (t : List ℕ) (least most : ℕ) (f : ℕ) (e : f ≡ signs t) where
-  pub number-empty : length t ≤ f → numberOf least most t ≡ WrongForm
-  unfolding numberOf isNumeral
-  number-empty h = rw (← e, drop-of-length-le t h)
+-- digits after a number: it counts for ten, or the base, to the power of their count
+pub numeral-shift : (base n : ℕ) (s : List ℕ) → numeral base n s ≡ n * base ^ length s + numeral base 0 s
+unfolding numeral
+numeral-shift base n [] = rw (pow-zero, mul-one, add-zero)
+numeral-shift base n (b ∷ s) =
+    let p = base ^ length s in
+    rw (numeral-shift base (n * base + digitOf b) s, numeral-shift base (0 * base + digitOf b) s, pow-succ')
+    (omega (arith, add-mul (n * base) (digitOf b) p, mul-assoc n base p, add-mul (0 * base) (digitOf b) p, zero-mul base, zero-mul p))
 
-  numeral-is : f < length t → isNumeral 10 (drop f t) ≡ allDigits 10 (drop f t)
-  unfolding isNumeral
-  numeral-is h = rw (drop-next t f h)
+-- ---- one or more digits
 
-  pub number-wrong : f < length t → allDigits 10 (drop f t) ≡ false → numberOf least most t ≡ WrongForm
+pub no-numeral : (base : ℕ) (s : List ℕ) → length s ≡ 0 → isNumeral base s ≡ false
+unfolding isNumeral
+no-numeral base [] h = refl
+no-numeral base (b ∷ s) h = absurd (omega arith)
+
+pub some-numeral : (base : ℕ) (s : List ℕ) → 0 < length s → isNumeral base s ≡ allDigits base s
+unfolding isNumeral
+some-numeral base [] h = absurd (omega arith)
+some-numeral base (b ∷ s) h = refl
+
+pub numeral-length : (base : ℕ) (s : List ℕ) → isNumeral base s ≡ true → 0 < length s
+unfolding isNumeral
+numeral-length base [] h = absurd (false≢true h)
+numeral-length base (b ∷ s) h = omega arith
+
+pub numeral-digits : (base : ℕ) (s : List ℕ) → isNumeral base s ≡ true → allDigits base s ≡ true
+numeral-digits base s h = sym (some-numeral base s (numeral-length base s h)) ∙ h
+
+-- ---- a text from its first digit on
+
+-- a slice from a place on
+pub rest : (t : List ℕ) (i : ℕ) → take (length t - i) (drop i t) ≡ drop i t
+rest t i = take-all (length t - i) (drop i t) (rw length-drop (omega arith))
+
+module _ (t : List ℕ) (least most f : ℕ) (e : f ≡ signs t) where
+  pub number-wrong : isNumeral 10 (drop f t) ≡ false → numberOf least most t ≡ WrongForm
   unfolding numberOf
-  number-wrong h k = rw (← e, numeral-is h, k)
+  number-wrong h = rw (← e, h)
 
-  pub number-long : f < length t → allDigits 10 (drop f t) ≡ true → 10 < length t - f → numberOf least most t ≡ OutOfRange
+  pub number-long : isNumeral 10 (drop f t) ≡ true → 10 < length (drop f t) → numberOf least most t ≡ OutOfRange
   unfolding numberOf
-  number-long h k l =
-      let q : 10 < length (drop f t) = rw length-drop l in
-      rw (← e, numeral-is h, k, lt-leb (length (drop f t)) 10 q)
+  number-long h l = rw (← e, h, lt-leb (length (drop f t)) 10 l)
 
-  pub number-value : f < length t → allDigits 10 (drop f t) ≡ true → length t - f ≤ 10 → numberOf least most t ≡ ranged least most (eqb f 1) (numeral 10 0 (drop f t))
-  unfolding numberOf
-  number-value h k l =
-      let q : length (drop f t) ≤ 10 = rw length-drop l in
-      rw (← e, numeral-is h, k, le-leb (length (drop f t)) 10 q)
+  pub number-fits : isNumeral 10 (drop f t) ≡ true → length (drop f t) ≤ 10 → numberOf least most t ≡ ranged least most (eqb f 1) (numeral 10 0 (drop f t))
+  number-fits h l =
+      rw e
+      (number-value least most t (drop (signs t) t) refl (rw e at (numeral-length 10 (drop f t) h)) (rw e at l) (rw e at (numeral-digits 10 (drop f t) h)))
 
 pub pattern-length : (t : List ℕ) → (length t ≡ 9 → ⊥) → patternOf t ≡ WrongForm
 unfolding patternOf

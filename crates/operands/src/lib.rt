@@ -1,14 +1,16 @@
-// Number operands as text: an optional minus and digits within bounds, and the bits of PUSHIMMF. It follows "Text, table, image" of document 01.
+// Number operands as text: an optional minus and digits within bounds, and the bits or the decimal of PUSHIMMF. It follows "Text, table, image" of
+// document 01, and letter e of document 02.
+mod decimals;
 
 use rules::Numeral;
 use rules::words;
 ghost use mathlib.Core.Path.{_≡_};
-ghost use Prim.Native.Nat.{_+_, _≤_};
-ghost use lib.ListN.{length, drop};
-ghost use Rattle.rules.specs.Operands.{digitOf, allDigits, numeral, signs, ranged, numberOf, patternOf};
+ghost use Prim.Native.Nat.{_≤_};
+ghost use lib.ListN.{length};
+ghost use Rattle.rules.specs.Operands.{digitOf, allDigits, numeral, isNumeral, signs, ranged, numberOf, patternOf, floatOf};
 
 // The bases of the digits: a byte that is no digit counts for the higher one.
-const DECIMAL: u64 = 10;
+pub(crate) const DECIMAL: u64 = 10;
 
 const HEX: u64 = 16;
 
@@ -43,14 +45,13 @@ fn digit_of(b: u8) -> u64
     HEX
 }
 
-// Whether each byte from `first` on is a digit in the base.
-fn all_digits(t: &[u8], first: usize, base: u64) -> bool
-    requires { ⌜ first ≤ length (now t) ⌝ }
-    ensures { λ r. ⌜ r ≡ allDigits base (drop first (now (t .entry))) ⌝ }
+// Whether each byte is a digit in the base.
+fn all_digits(ds: &[u8], base: u64) -> bool
+    ensures { λ r. ⌜ r ≡ allDigits base (now (ds .entry)) ⌝ }
 {
-    let mut i = first;
-    while i < t.len() {
-        if digit_of(t[i]) >= base {
+    let mut i = 0;
+    while i < ds.len() {
+        if digit_of(ds[i]) >= base {
             return false;
         }
         i += 1;
@@ -58,22 +59,32 @@ fn all_digits(t: &[u8], first: usize, base: u64) -> bool
     true
 }
 
-// The number that the digits from `first` on make: at most ten of them, so that it fits.
-fn numeral_at(t: &[u8], first: usize, base: u64) -> u64
-    requires { ⌜ (first ≤ length (now t)) × ((length (now t) ≤ first + 10) × (base ≤ 16)) ⌝ }
-    ensures { λ r. ⌜ r ≡ numeral base 0 (drop first (now (t .entry))) ⌝ }
+// Whether a text is one or more digits in the base.
+pub(crate) fn is_numeral(ds: &[u8], base: u64) -> bool
+    ensures { λ r. ⌜ r ≡ isNumeral base (now (ds .entry)) ⌝ }
+{
+    if ds.len() == 0 {
+        return false;
+    }
+    all_digits(ds, base)
+}
+
+// The number that the digits make: at most ten of them, so that it fits.
+pub(crate) fn numeral_of(ds: &[u8], base: u64) -> u64
+    requires { ⌜ (length (now ds) ≤ 10) × (base ≤ 16) ⌝ }
+    ensures { λ r. ⌜ r ≡ numeral base 0 (now (ds .entry)) ⌝ }
 {
     let mut n: u64 = 0;
-    let mut i = first;
-    while i < t.len() {
-        n = n * base + digit_of(t[i]);
+    let mut i = 0;
+    while i < ds.len() {
+        n = n * base + digit_of(ds[i]);
         i += 1;
     }
     n
 }
 
 // How many minus signs stand in front: 1 or none.
-fn signs_of(t: &[u8]) -> usize
+pub(crate) fn signs_of(t: &[u8]) -> usize
     ensures { λ r. ⌜ (r ≡ signs (now (t .entry))) × (r ≤ length (now (t .entry))) ⌝ }
 {
     if t.len() == 0 {
@@ -106,20 +117,18 @@ pub fn number_of(t: &[u8], least: u32, most: u32) -> Numeral
     ensures { λ r. ⌜ r ≡ numberOf least most (now (t .entry)) ⌝ }
 {
     let first = signs_of(t);
-    if first == t.len() {
+    let ds = &t[first..];
+    if !is_numeral(ds, DECIMAL) {
         return Numeral::WrongForm;
     }
-    if !all_digits(t, first, DECIMAL) {
-        return Numeral::WrongForm;
-    }
-    if t.len() - first > MAX_DIGITS {
+    if ds.len() > MAX_DIGITS {
         return Numeral::OutOfRange;
     }
-    in_range(least, most, first == 1, numeral_at(t, first, DECIMAL))
+    in_range(least, most, first == 1, numeral_of(ds, DECIMAL))
 }
 
 // The bits of PUSHIMMF: `#` and eight hex digits.
-pub fn pattern_of(t: &[u8]) -> Numeral
+fn pattern_of(t: &[u8]) -> Numeral
     ensures { λ r. ⌜ r ≡ patternOf (now (t .entry)) ⌝ }
 {
     if t.len() != PATTERN_SIZE {
@@ -128,9 +137,23 @@ pub fn pattern_of(t: &[u8]) -> Numeral
     if t[0] != b'#' {
         return Numeral::WrongForm;
     }
-    if !all_digits(t, 1, HEX) {
+    let ds = &t[1..];
+    if !all_digits(ds, HEX) {
         return Numeral::WrongForm;
     }
-    let n = numeral_at(t, 1, HEX);
+    let n = numeral_of(ds, HEX);
     Numeral::Value(n as u32)
+}
+
+// The operand of PUSHIMMF: bits where a `#` stands in front, else a decimal.
+pub fn float_of(t: &[u8]) -> Numeral
+    ensures { λ r. ⌜ r ≡ floatOf (now (t .entry)) ⌝ }
+{
+    if t.len() == 0 {
+        return Numeral::WrongForm;
+    }
+    if t[0] == b'#' {
+        return pattern_of(t);
+    }
+    decimals::decimal_of(t)
 }

@@ -8,7 +8,7 @@ use lib.Dec.{eqb, leb}
 use lib.ListN.{length, getD, List·getD-map, List·getD-eq-default}
 use borrow.Author.Tests.{eqb-true, leb-true}
 use Rattle.rules.specs.Lists.{text, all}
-use Rattle.rules.specs.Instructions.{rows, names, nameOf}
+use Rattle.rules.specs.Instructions.{rows, codes, names, nameOf}
 use Rattle.rules.proofs.Tests.{and-left, and-right, below, at-below}
 
 abbrev pub flat : List ℕ
@@ -63,6 +63,8 @@ flat =
     ∷ 74 ∷ 83 ∷ 82 ∷ 0 ∷ 0 ∷ 0 ∷ 0 ∷ 0 ∷ 0
     ∷ 74 ∷ 83 ∷ 82 ∷ 73 ∷ 78 ∷ 68 ∷ 0 ∷ 0 ∷ 0
     ∷ 80 ∷ 85 ∷ 83 ∷ 72 ∷ 73 ∷ 77 ∷ 77 ∷ 80 ∷ 65
+    ∷ 73 ∷ 84 ∷ 79 ∷ 70 ∷ 0 ∷ 0 ∷ 0 ∷ 0 ∷ 0
+    ∷ 70 ∷ 84 ∷ 79 ∷ 73 ∷ 0 ∷ 0 ∷ 0 ∷ 0 ∷ 0
     ∷ []
 
 abbrev pub lengths : List ℕ
@@ -72,6 +74,7 @@ lengths =
     ∷ 6 ∷ 5 ∷ 7 ∷ 6 ∷ 6 ∷ 6 ∷ 3 ∷ 4 ∷ 7 ∷ 4
     ∷ 5 ∷ 5 ∷ 5 ∷ 5 ∷ 6 ∷ 5 ∷ 7 ∷ 6 ∷ 4 ∷ 5
     ∷ 7 ∷ 8 ∷ 7 ∷ 8 ∷ 4 ∷ 5 ∷ 7 ∷ 3 ∷ 6 ∷ 9
+    ∷ 4 ∷ 4
     ∷ []
 
 -- ---- lengths
@@ -95,7 +98,7 @@ unfolding all
 lengths-most = refl
 
 -- past the last code there is no name
-pub length-past : (c : ℕ) → 50 ≤ c → length (nameOf c) ≡ 0
+pub length-past : (c : ℕ) → codes ≤ c → length (nameOf c) ≡ 0
 length-past c h = sym (length-at c) ∙ List·getD-eq-default lengths 0 h
 
 -- the longest has nine bytes
@@ -115,7 +118,7 @@ bytes-right : below byteRight (length flat) ≡ true
 unfolding byteRight nameOf names rows text
 bytes-right = refl
 
-pub byte-at : (c i : ℕ) → c < 50 → i < 9 → getD flat (c * 9 + i) 0 ≡ getD (nameOf c) i 0
+pub byte-at : (c i : ℕ) → c < codes → i < 9 → getD flat (c * 9 + i) 0 ≡ getD (nameOf c) i 0
 unfolding byteRight
 byte-at c i h k =
     let p : (c * 9 + i) / 9 ≡ c = omega arith in

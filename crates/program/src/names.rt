@@ -1,8 +1,6 @@
 // The names of the instructions.
 use rules::codes;
 ghost use mathlib.Core.Path.{_≡_};
-ghost use mathlib.Core.Bool.{Bool};
-ghost use Prim.Native.Nat.{_<_};
 ghost use lib.ListN.{length, getD};
 ghost use Rattle.rules.specs.Lists.{same};
 ghost use Rattle.rules.specs.Instructions.{nameOf};
@@ -62,7 +60,9 @@ const NAMES: [u8; codes::COUNT * NAME_SIZE] = *b"\
     JUMPIND\0\0\
     JSR\0\0\0\0\0\0\
     JSRIND\0\0\0\
-    PUSHIMMPA";
+    PUSHIMMPA\
+    ITOF\0\0\0\0\0\
+    FTOI\0\0\0\0\0";
 
 // Their lengths.
 const LENGTHS: [u8; codes::COUNT] = [
@@ -116,6 +116,8 @@ const LENGTHS: [u8; codes::COUNT] = [
     3,
     6,
     9,
+    4,
+    4,
 ];
 
 // The byte of a name at place i: 0 past its end.

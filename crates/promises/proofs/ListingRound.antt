@@ -21,7 +21,7 @@ use Rattle.rules.specs.declared.Numeral.the-variants.{Value}
 use Rattle.rules.proofs.Tests.{and-left, and-right}
 use Rattle.rules.proofs.Tokens.{tokens-alone, tokens-line}
 use Rattle.rules.proofs.Operands.{ranged-most}
-use Rattle.rules.proofs.Texts.{decimal-first, number-decimal, number-signed, number-offset, pattern-hex}
+use Rattle.rules.proofs.Texts.{decimal-first, number-decimal, number-signed, number-offset, float-hex}
 use Rattle.rules.proofs.Names.{Wordlike, name-wordlike, name-no-label, code-named}
 use Rattle.rules.proofs.Lines.{wordlike-decimal, wordlike-signed, wordlike-pattern, sound-code, sound-operand}
 use Rattle.rules.proofs.Judging.{token-allowed, name-new, judge-end, judge-go, Settles, settles-finished, settles-numbered, joinAll, join-none, join-more, join-done, no-word, no-letter}
@@ -108,7 +108,7 @@ module _ (size n w : ℕ) (s : Progress) (at : ℕ) (rest : List ℕ) (h : codeO
       (plain-read (signedText v) (rw (e, number-signed v (omega arith)))) (settles-finished n w)
   by-kind Pattern e f =
       with-operand (hash ∷ hex 8 v) (finished w) (rw e) (wordlike-pattern v)
-      (plain-read (hash ∷ hex 8 v) (rw (e, pattern-hex v (omega arith)))) (settles-finished n w)
+      (plain-read (hash ∷ hex 8 v) (rw (e, float-hex v (omega arith)))) (settles-finished n w)
   by-kind Offset e f =
       with-operand (signedText v) (finished w) (rw e) (wordlike-signed v)
       (plain-read (signedText v) (rw (e, number-offset v (omega arith) f))) (settles-finished n w)

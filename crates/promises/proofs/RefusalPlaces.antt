@@ -11,7 +11,7 @@ use borrow.Author.Tests.{ltb-true, eqb-false}
 use Rattle.rules.specs.Sizes.{maxProgram, maxLabels, maxLabel, maxOffset}
 use Rattle.rules.specs.Bytes.{isWord}
 use Rattle.rules.specs.Tokens.{Token, tokens}
-use Rattle.rules.specs.Operands.{numberOf, patternOf}
+use Rattle.rules.specs.Operands.{numberOf, floatOf}
 use Rattle.rules.specs.Numbers.{textNumber}
 use Rattle.rules.specs.Instructions.{codes, kindOf}
 use Rattle.rules.specs.Table.{placeOf}
@@ -99,7 +99,7 @@ module _ (size : ℕ) where
     operand-right : (k : Kind) (c : ℕ) (t : List ℕ) → RightReading at (operandOfKind k c at t)
     operand-right Bare c t = here OperandForm refl
     operand-right Immediate c t = plain-right c (numberOf (2 ^ 31) (2 ^ 31 - 1) t)
-    operand-right Pattern c t = plain-right c (patternOf t)
+    operand-right Pattern c t = plain-right c (floatOf t)
     operand-right Offset c t = plain-right c (numberOf maxOffset maxOffset t)
     operand-right Target c t = target-word-right c t (isWord t)
 

@@ -13,8 +13,8 @@ use borrow.Author.Tests.{ltb-true, leb-true, eqb-true, eqb-false, not-true}
 use Rattle.rules.specs.Lists.{every}
 use Rattle.rules.specs.Tags.{INT, FLOAT, MA, PA, int, pa, has}
 use Rattle.rules.specs.Words.{signed, holds}
-use Rattle.rules.specs.Floats.{unordered}
-use Rattle.rules.specs.Instructions.{Action, stop, pushInt, pushFloat, pushPa, dup, swap, sums, ints, divides, floats, compareFloats, one, equal, isNil, pushSp, popSp, pushFbr, popFbr, link, addSp, pushInd, storeInd, pushOff, storeOff, jump, jumpC, jumpInd, jsr, jsrInd, Row, codes, rows, rowOf, kindOf, actionOf}
+use Rattle.rules.specs.Floats.{unordered, hasInt}
+use Rattle.rules.specs.Instructions.{Action, stop, pushInt, pushFloat, pushPa, dup, swap, sums, ints, divides, floats, compareFloats, one, toFloat, toInt, equal, isNil, pushSp, popSp, pushFbr, popFbr, link, addSp, pushInd, storeInd, pushOff, storeOff, jump, jumpC, jumpInd, jsr, jsrInd, Row, codes, rows, rowOf, kindOf, actionOf}
 use Rattle.rules.specs.Table.{Program, codeOf, operandOf, within, soundPlace}
 use Rattle.rules.specs.State.{Memory, cellAt, soundCell, soundCells, stateTests, sound}
 use Rattle.rules.specs.Decide.{demand, inside, memoryAddress, programAddress, following, result, swapped, stored, moved, framed, linked, jumped, called, halted, addSpTo, frame, pushable, onValues, decide}
@@ -147,6 +147,8 @@ aims (divides f) = false
 aims (floats f) = false
 aims compareFloats = false
 aims (one f) = false
+aims toFloat = false
+aims toInt = false
 aims equal = false
 aims isNil = false
 aims pushSp = false
@@ -319,6 +321,9 @@ module _ (p : Program) (r : Registers) (m : Memory) (s : Sound p r m) (going : r
       demands (leb 2 (r .sp)) _ _ (λ h. demands (has FLOAT vb && has FLOAT vt) _ _ (λ t.
       demands (not (unordered (vb .bits) (vt .bits))) _ _ (λ z. plain 2 INT _ zero-le)))
   fair-values (one f) aim = demands (leb 1 (r .sp)) _ _ (λ h. demands (has INT vt) _ _ (λ t. plain 1 INT _ zero-le))
+  fair-values toFloat aim = demands (leb 1 (r .sp)) _ _ (λ h. demands (has INT vt) _ _ (λ t. plain 1 FLOAT _ (lit≤ tt)))
+  fair-values toInt aim =
+      demands (leb 1 (r .sp)) _ _ (λ h. demands (has FLOAT vt) _ _ (λ t. demands (hasInt (vt .bits)) _ _ (λ z. plain 1 INT _ zero-le)))
   fair-values equal aim = demands (leb 2 (r .sp)) _ _ (λ h. plain 2 INT _ zero-le)
   fair-values isNil aim = demands (leb 1 (r .sp)) _ _ (λ h. plain 1 INT _ zero-le)
   fair-values pushSp aim = plain 0 MA (r .sp) (lit≤ tt)

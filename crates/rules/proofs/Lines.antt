@@ -99,7 +99,7 @@ widest Target = 5
 lineRight : ℕ → Bool
 lineRight c = leb (length (nameOf c) + widest (kindOf c) + 1) 20
 
--- the fifty names, each with the longest operand of its kind
+-- the names, each with the longest operand of its kind
 lines-right : below lineRight codes ≡ true
 unfolding lineRight nameOf kindOf rowOf names rows text
 lines-right = refl

@@ -1,4 +1,4 @@
--- The fifty names: what their bytes are, and that each is its own code's. Computed from the table. Assumes nothing.
+-- The names: what their bytes are, and that each is its own code's. Computed from the table. Assumes nothing.
 use Prim.Native.Nat.{ℕ, _<_}
 use mathlib.Core.Path.{_≡_, refl}
 use mathlib.Core.Bool.{Bool, true, false, not, _&&_}

@@ -6,17 +6,17 @@ use mathlib.Core.List.{List, [], _∷_}
 use native.Mathlib.Nat.{mod-lt}
 use native.Mathlib.Omega.{arith}
 use lib.Dec.{T, leb, lit<}
-use lib.IntN.{ℤ, pos, negsuc, _+ℤ_}
+use lib.IntN.{ℤ, pos, negsuc, natAbs, _+ℤ_}
 use lib.ListN.{length, getD}
-use lib.Signed.{quotZ, remZ}
+use lib.Signed.{ltZ, quotZ, remZ}
 use lib.Bits.{bitAnd, bitOr, and-lt, or-lt, xor-lt}
-use lib.Ieee.{Float, Format, binary32, ofBits, add, sub, mul, div, fits, lt}
+use lib.Ieee.{Float, Format, binary32, ofBits, round, add, sub, mul, div, fits, lt}
 use lib.Ieee.Bits.{toBits-lt}
-use lib.Ieee.Fits.{add-fits, sub-fits, mul-fits, div-fits}
+use lib.Ieee.Fits.{round-fits, add-fits, sub-fits, mul-fits, div-fits}
 use Rattle.rules.specs.Tags.{INT, FLOAT, MA, PA, int, float, ma, pa, has}
 use Rattle.rules.specs.Words.{signed, word, times, quotient, remainder, bit, holds, logic, nand, nor, unlike, bitNot, bitNand, bitNor, less, sense, ordered}
-use Rattle.rules.specs.Floats.{rounded, plusF, minusF, timesF, quotientF, unordered, orderedF}
-use Rattle.rules.specs.Instructions.{Action, stop, pushInt, pushFloat, pushPa, dup, swap, sums, ints, divides, floats, compareFloats, one, equal, isNil, pushSp, popSp, pushFbr, popFbr, link, addSp, pushInd, storeInd, pushOff, storeOff, jump, jumpC, jumpInd, jsr, jsrInd, Row, rows, rowOf, actionOf}
+use Rattle.rules.specs.Floats.{rounded, plusF, minusF, timesF, quotientF, unordered, orderedF, nearestF, intToF, cut, hasInt}
+use Rattle.rules.specs.Instructions.{Action, stop, pushInt, pushFloat, pushPa, dup, swap, sums, ints, divides, floats, compareFloats, one, toFloat, toInt, equal, isNil, pushSp, popSp, pushFbr, popFbr, link, addSp, pushInd, storeInd, pushOff, storeOff, jump, jumpC, jumpInd, jsr, jsrInd, Row, rows, rowOf, actionOf}
 use Rattle.rules.specs.Table.{Program, codeOf, operandOf}
 use Rattle.rules.specs.State.{Memory, cellAt, sound}
 use Rattle.rules.specs.Decide.{inside, memoryAddress, programAddress, result, swapped, stored, moved, framed, linked, jumped, called, halted, agree, nil, pushable, addSpTo, frame, onValues, decide}
@@ -123,6 +123,14 @@ orderedF-lt : Words orderedF
 unfolding orderedF
 orderedF-lt b t hb ht = sense-lt (lt (ofBits binary32 b) (ofBits binary32 t)) (lt (ofBits binary32 t) (ofBits binary32 b))
 
+nearestF-lt : (minus : Bool) (a c : ℕ) → nearestF minus a c < 2 ^ 32
+unfolding nearestF
+nearestF-lt minus a c = toBits-lt binary32 _ (round-fits binary32 _ _ _)
+
+intToF-lt : Word intToF
+unfolding intToF
+intToF-lt t h = nearestF-lt (ltZ (signed t) (pos 0)) (natAbs (signed t)) 1
+
 -- ---- every row's operation makes words of words
 
 abbrev Kept : Action → Type 0
@@ -138,6 +146,8 @@ Kept (divides f) = Words f
 Kept (floats f) = Words f
 Kept compareFloats = Unit {0}
 Kept (one f) = Word f
+Kept toFloat = Unit {0}
+Kept toInt = Unit {0}
 Kept equal = Unit {0}
 Kept isNil = Unit {0}
 Kept pushSp = Unit {0}
@@ -179,7 +189,7 @@ kept-rows =
     then logic-lt _&&_ then logic-lt _||_ then logic-lt nand then logic-lt nor then logic-lt unlike then falsity-lt
     then and-lt 32 then or-lt 32 then nand-lt then nor-lt then xor-lt 32 then not-lt
     then ordered-lt then tt then greater-lt then less-lt then tt then tt then above-lt then below-lt
-    then tt then tt then tt then tt then tt then tt then tt then tt then tt then tt then tt then tt then tt then tt then tt then tt
+    then tt then tt then tt then tt then tt then tt then tt then tt then tt then tt then tt then tt then tt then tt then tt then tt then tt then tt
     then end
 
 kept-action : (c : ℕ) → Kept (actionOf c)
@@ -233,6 +243,9 @@ module _ (r : Registers) (m : Memory) (sp : r .sp < 2 ^ 32) (fbr : r .fbr < 2 ^ 
       demands (leb 2 (r .sp)) _ _ (λ h. demands (has FLOAT vb && has FLOAT vt) _ _ (λ t.
       demands (not (unordered (vb .bits) (vt .bits))) _ _ (λ z. pushes 2 _ (orderedF-lt (vb .bits) (vt .bits) hb ht))))
   slim-values (one f) k = demands (leb 1 (r .sp)) _ _ (λ h. demands (has INT vt) _ _ (λ t. pushes 1 _ (k (vt .bits) ht)))
+  slim-values toFloat k = demands (leb 1 (r .sp)) _ _ (λ h. demands (has INT vt) _ _ (λ t. pushes 1 _ (intToF-lt (vt .bits) ht)))
+  slim-values toInt k =
+      demands (leb 1 (r .sp)) _ _ (λ h. demands (has FLOAT vt) _ _ (λ t. demands (hasInt (vt .bits)) _ _ (λ z. pushes 1 _ (word-lt (cut (vt .bits))))))
   slim-values equal k = demands (leb 2 (r .sp)) _ _ (λ h. pushes 2 _ (bit-lt (agree vb vt)))
   slim-values isNil k = demands (leb 1 (r .sp)) _ _ (λ h. pushes 1 _ (bit-lt (nil vt)))
   slim-values pushSp k = pushes 0 (ma (r .sp)) sp

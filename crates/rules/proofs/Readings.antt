@@ -2,17 +2,17 @@
 -- Assumes nothing.
 use mathlib.Core.Path.{_≡_, refl, ap, _∙_, subst}
 use mathlib.Core.Bool.{Bool, true, false, not}
-use Prim.Native.Nat.{ℕ, suc, _-_, _^_, _≤_, _<_}
+use Prim.Native.Nat.{ℕ, suc, _+_, _-_, _^_, _≤_, _<_, zero-le}
 use native.Mathlib.Omega.{arith}
-use lib.Dec.{T, ltb, ltb→lt, nltb→le}
-use lib.IntN.{ℤ, pos, negsuc}
-use lib.Signed.{mag}
-use borrow.Author.Tests.{leb-true, le-leb}
+use lib.Dec.{T, leb, ltb, ltb→lt, nltb→le}
+use lib.IntN.{ℤ, pos, negsuc, natAbs}
+use lib.Signed.{mag, ltZ}
+use borrow.Author.Tests.{leb-true, leb-false, le-leb, lt-ltb, le-ltb}
 use mir.Syntax.{w32}
 use mir.Val.{SFits, sel, ofZ}
 use mir.Facts.{toZ-ofZ}
 use Rattle.rules.specs.Words.{signed, word, inWord}
-use Rattle.rules.proofs.Tests.{and-left}
+use Rattle.rules.proofs.Tests.{by-test, and-left}
 
 -- a word is the word of the number that it stands for
 pub word-signed : (n : ℕ) → n < 2 ^ 32 → word (signed n) ≡ n
@@ -54,3 +54,17 @@ in-word-reads z h = signed-word z (in-word-below z h)
 
 pub reads-in-word : (z : ℤ) (b : ℕ) → signed b ≡ z → inWord z ≡ true
 reads-in-word z b e = below-in-word z (subst (λ (y : ℤ). mag y < 2 ^ 31) e (signed-fits b .sfits))
+
+-- ---- sign and size of the number that a word stands for
+
+pub size-plus : (t : ℕ) → t < 2 ^ 31 → natAbs (signed t) ≡ t
+size-plus t h = rw (lt-ltb t (2 ^ 31) h)
+
+pub size-minus : (t : ℕ) → 2 ^ 31 ≤ t → t < 2 ^ 32 → natAbs (signed t) ≡ 2 ^ 32 - 1 - t + 1
+size-minus t h l = rw (le-ltb t (2 ^ 31) h) (omega arith)
+
+pub sign-below : (t : ℕ) → ltZ (signed t) (pos 0) ≡ leb (2 ^ 31) t
+sign-below t =
+    by-test (leb (2 ^ 31) t)
+    (λ e. rw (e, le-ltb t (2 ^ 31) (leb-true (2 ^ 31) t e)))
+    (λ e. rw (e, lt-ltb t (2 ^ 31) (leb-false (2 ^ 31) t e)) (le-ltb t 0 zero-le))

@@ -12,7 +12,7 @@ use borrow.Author.Tests.{leb-true, eqb-true, lt-ltb, le-leb, eq-eqb}
 use Rattle.rules.specs.Lists.{part, splice}
 use Rattle.rules.specs.Tags.{PA}
 use Rattle.rules.specs.Places.{stepPlace}
-use Rattle.rules.specs.Instructions.{Action, stop, pushInt, pushFloat, pushPa, dup, swap, sums, ints, divides, floats, compareFloats, one, equal, isNil, pushSp, popSp, pushFbr, popFbr, link, addSp, pushInd, storeInd, pushOff, storeOff, jump, jumpC, jumpInd, jsr, jsrInd, actionOf}
+use Rattle.rules.specs.Instructions.{Action, stop, pushInt, pushFloat, pushPa, dup, swap, sums, ints, divides, floats, compareFloats, one, toFloat, toInt, equal, isNil, pushSp, popSp, pushFbr, popFbr, link, addSp, pushInd, storeInd, pushOff, storeOff, jump, jumpC, jumpInd, jsr, jsrInd, actionOf}
 use Rattle.rules.specs.Table.{Program, codeOf, operandOf}
 use Rattle.rules.specs.State.{Memory, memory, cellAt, soundCell, soundCells, sound}
 use Rattle.rules.specs.Decide.{demand, onValues, decide}
@@ -213,6 +213,8 @@ values-history r b t h h′ n vb vt (divides f) = refl
 values-history r b t h h′ n vb vt (floats f) = refl
 values-history r b t h h′ n vb vt compareFloats = refl
 values-history r b t h h′ n vb vt (one f) = refl
+values-history r b t h h′ n vb vt toFloat = refl
+values-history r b t h h′ n vb vt toInt = refl
 values-history r b t h h′ n vb vt equal = refl
 values-history r b t h h′ n vb vt isNil = refl
 values-history r b t h h′ n vb vt pushSp = refl

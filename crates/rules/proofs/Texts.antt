@@ -11,7 +11,7 @@ use lib.ListN.{length, getD, length-append}
 use borrow.Author.Tests.{lt-ltb, le-ltb, ltb-true, ltb-false, leb-true, eqb-true}
 use Rattle.rules.specs.Sizes.{maxOffset}
 use Rattle.rules.specs.Bytes.{hash, minusSign, zeroDigit, blank, letter, wordByte, allowed}
-use Rattle.rules.specs.Operands.{digitOf, allDigits, numeral, signs, negated, ranged, numberOf, patternOf}
+use Rattle.rules.specs.Operands.{digitOf, allDigits, numeral, signs, negated, ranged, numberOf, floatOf}
 use Rattle.rules.specs.Listing.{decimal, signedText, hexByte, hex}
 use Rattle.rules.specs.declared.Numeral.the-variants.{Value}
 use Rattle.rules.proofs.Tests.{by-test, and-left, and-right, below, at-below}
@@ -235,5 +235,7 @@ numeral-hex (suc k) n h =
     let i : numeral 16 0 (hex k (n / 16)) ≡ n / 16 = numeral-hex k (n / 16) (omega arith) in
     numeral-append 16 0 (hex k (n / 16)) (hexByte (n % 16) ∷ []) ∙ hex-last (numeral 16 0 (hex k (n / 16))) n ∙ omega arith
 
-pub pattern-hex : (v : ℕ) → v < 2 ^ 32 → patternOf (hash ∷ hex 8 v) ≡ Value v
-pattern-hex v h = pattern-value (hex 8 v) (length-hex 8 v) (digits-hex 8 v) ∙ ap Value (numeral-hex 8 v (omega arith))
+-- "Listings still write bits." (02 e): what begins with `#` is read as bits
+pub float-hex : (v : ℕ) → v < 2 ^ 32 → floatOf (hash ∷ hex 8 v) ≡ Value v
+unfolding floatOf
+float-hex v h = pattern-value (hex 8 v) (length-hex 8 v) (digits-hex 8 v) ∙ ap Value (numeral-hex 8 v (omega arith))

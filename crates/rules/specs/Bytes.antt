@@ -33,6 +33,9 @@ zeroDigit = code "0"
 abbrev pub colon : ℕ
 colon = code ":"
 
+abbrev pub point : ℕ
+point = code "."
+
 abbrev pub underscore : ℕ
 underscore = code "_"
 
@@ -48,9 +51,9 @@ letter b = (leb (code "A") b && leb b (code "Z")) || (leb (code "a") b && leb b 
 unfoldable pub wordByte : ℕ → Bool
 wordByte b = letter b || (leb (code "0") b && leb b (code "9")) || eqb b underscore
 
--- "Other bytes allowed: letters, digits, `_ - # :`."
+-- "Other bytes allowed: letters, digits, `_ - # :`."; "the point becomes an allowed byte" (02 e)
 unfoldable pub allowed : ℕ → Bool
-allowed b = wordByte b || eqb b minusSign || eqb b hash || eqb b colon
+allowed b = wordByte b || eqb b minusSign || eqb b hash || eqb b colon || eqb b point
 
 -- every byte of a text is one of a word
 unfoldable pub allWord : List ℕ → Bool

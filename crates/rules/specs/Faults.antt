@@ -27,7 +27,7 @@ pub record Refusal : Type 0 where
   pub number : ℕ
   pub position : Position
 
-abbrev refusal : List ℕ → ℕ → (place line column : ℕ) → Refusal
+abbrev pub refusal : List ℕ → ℕ → (place line column : ℕ) → Refusal
 refusal source number place line column =
     record { source = source; number = number; position = record { place = place; line = line; column = column } }
 
@@ -55,9 +55,10 @@ abbrev pub tells : Assembled → Refusal → Bool
 tells a r = eqb (numberOfAssembled a) (r .number) && samePosition (positionOfAssembled a) (r .position)
 
 unfoldable pub allTold : List Refusal → Bool
+unfolding Lists.text Lists.all Lists.same Instructions.rows Instructions.rowOf Instructions.kindOf Instructions.actionOf Instructions.names Instructions.nameOf Bytes.blank Bytes.letter Bytes.wordByte Bytes.allowed Bytes.allWord Bytes.isWord Tokens.opens Tokens.stops Tokens.last Tokens.extend Tokens.tokens Tokens.comment Operands.digitOf Operands.allDigits Operands.numeral Operands.isNumeral Operands.signs Operands.negated Operands.ranged Operands.numberOf Operands.patternOf Operands.beforePoint Operands.afterPoint Operands.isDecimal Operands.nearestDecimal Operands.digitsIn Operands.decimalOf Operands.floatOf Assemble.placeIn Assemble.codeNamed Assemble.allowedRun Assemble.body Assemble.isLabel Assemble.lookup Assemble.targetLabel Assemble.newLabel Assemble.newName Assemble.judgeToken Assemble.settle Assemble.finish Assemble.judge Assemble.translated Assemble.assemble Positions.lineFeeds Positions.sinceLF Positions.positionOf
 allTold [] = true
 allTold (r ∷ rs) = tells (assemble (r .source) (replicate maxProgram 0) .answer) r && allTold rs
 
 pub told : allTold refusals ≡ true
-unfolding refusals allTold Lists.text Lists.all Lists.same Instructions.rows Instructions.rowOf Instructions.kindOf Instructions.actionOf Instructions.names Instructions.nameOf Bytes.blank Bytes.letter Bytes.wordByte Bytes.allowed Bytes.allWord Bytes.isWord Tokens.opens Tokens.stops Tokens.last Tokens.extend Tokens.tokens Tokens.comment Operands.digitOf Operands.allDigits Operands.numeral Operands.isNumeral Operands.signs Operands.negated Operands.ranged Operands.numberOf Operands.patternOf Assemble.placeIn Assemble.codeNamed Assemble.allowedRun Assemble.body Assemble.isLabel Assemble.lookup Assemble.targetLabel Assemble.newLabel Assemble.newName Assemble.judgeToken Assemble.settle Assemble.finish Assemble.judge Assemble.translated Assemble.assemble Positions.lineFeeds Positions.sinceLF Positions.positionOf
+unfolding refusals allTold
 told = refl

@@ -1,11 +1,12 @@
--- Document 01, "Text, table, image": number operands as text. Assumes nothing.
+-- Document 01, "Text, table, image", and document 02, letter e: number operands as text. Assumes nothing.
 use Prim.Native.Nat.{ℕ, _+_, _*_, _-_, _^_, _%_}
 use Prim.Native.Char.{code}
 use mathlib.Core.Bool.{Bool, true, false, cond, _&&_}
 use mathlib.Core.List.{List, [], _∷_}
 use lib.Dec.{eqb, leb, ltb}
-use lib.ListN.{length, drop}
-use Rattle.rules.specs.Bytes.{hash, minusSign}
+use lib.ListN.{length, drop, getD}
+use Rattle.rules.specs.Bytes.{hash, minusSign, point}
+use Rattle.rules.specs.Floats.{nearestF}
 use Rattle.rules.specs.declared.Numeral.{Numeral}
 use Rattle.rules.specs.declared.Numeral.the-variants.{Value, WrongForm, OutOfRange}
 
@@ -58,3 +59,43 @@ patternOf [] = WrongForm
 patternOf (b ∷ ds) =
     let n = Value (numeral 16 0 ds) in
     cond (eqb (length ds) 8 && eqb b hash && allDigits 16 ds) n WrongForm
+
+-- ---- decimals (02 e)
+
+-- what stands before the first point, and what after it: the whole text, and nothing, where there is none
+unfoldable pub beforePoint : List ℕ → List ℕ
+beforePoint [] = []
+beforePoint (b ∷ s) =
+    let more = b ∷ beforePoint s in
+    cond (eqb b point) [] more
+
+unfoldable pub afterPoint : List ℕ → List ℕ
+afterPoint [] = []
+afterPoint (b ∷ s) =
+    let rest = afterPoint s in
+    cond (eqb b point) s rest
+
+-- "a point with digits on both sides"
+unfoldable pub isDecimal : List ℕ → Bool
+isDecimal ds = isNumeral 10 (beforePoint ds) && isNumeral 10 (afterPoint ds)
+
+-- "It is read as the binary32 nearest the exact decimal": all its digits as one number, over ten for each digit after the point; "Minus zero keeps its
+-- sign."
+unfoldable pub nearestDecimal : Bool → List ℕ → ℕ
+nearestDecimal minus ds = nearestF minus (numeral 10 (numeral 10 0 (beforePoint ds)) (afterPoint ds)) (10 ^ length (afterPoint ds))
+
+-- "two to nine digits in all"
+unfoldable pub digitsIn : List ℕ → ℕ
+digitsIn ds = length (beforePoint ds) + length (afterPoint ds)
+
+-- "a decimal with two to nine digits in all, a point with digits on both sides, and an optional minus"; "an ill-formed decimal is 33, ten or more
+-- digits 25"
+unfoldable pub decimalOf : List ℕ → Numeral
+decimalOf t =
+    let ds = drop (signs t) t in
+    let v = Value (nearestDecimal (eqb (signs t) 1) ds) in
+    cond (isDecimal ds) (cond (leb (digitsIn ds) 9) v OutOfRange) WrongForm
+
+-- "PUSHIMMF shall also take a decimal"
+unfoldable pub floatOf : List ℕ → Numeral
+floatOf t = cond (eqb (getD t 0 0) hash) (patternOf t) (decimalOf t)

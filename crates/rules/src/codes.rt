@@ -1,4 +1,4 @@
-// The codes of the instructions: "Codes in order from 0".
+// The codes of the instructions: "Codes in order from 0", and those of request e.
 pub const STOP: usize = 0;
 
 pub const PUSHIMM: usize = 1;
@@ -99,5 +99,9 @@ pub const JSRIND: usize = 48;
 
 pub const PUSHIMMPA: usize = 49;
 
+pub const ITOF: usize = 50;
+
+pub const FTOI: usize = 51;
+
 // How many there are: a code is below it.
-pub const COUNT: usize = 50;
+pub const COUNT: usize = 52;

@@ -18,7 +18,10 @@ returns-3 : tie.Need-returns-3
 returns-3 c = sym (law.allowed-3 (c .before .before .before .before .args .b) (sym (c .before .before .before .is-word-byte .ensures) ∙ c .before .before .if1 .left) (c .before .if2 .left) (c .if3 .taken))
 
 returns-4 : tie.Need-returns-4
-returns-4 c = sym (law.allowed-4 (c .before .before .before .before .args .b) (sym (c .before .before .before .is-word-byte .ensures) ∙ c .before .before .if1 .left) (c .before .if2 .left) (c .if3 .left))
+returns-4 c = sym (law.allowed-4 (c .before .before .before .before .before .args .b) (sym (c .before .before .before .before .is-word-byte .ensures) ∙ c .before .before .before .if1 .left) (c .before .before .if2 .left) (c .before .if3 .left) (c .if4 .taken))
+
+returns-5 : tie.Need-returns-5
+returns-5 c = sym (law.allowed-5 (c .before .before .before .before .before .args .b) (sym (c .before .before .before .before .is-word-byte .ensures) ∙ c .before .before .before .if1 .left) (c .before .before .if2 .left) (c .before .if3 .left) (c .if4 .left))
 
 pub is-allowed-spec : {M : Type 1} → statement M
-is-allowed-spec = tie.close (tie.spec is-word-byte-requires returns returns-2 returns-3 returns-4)
+is-allowed-spec = tie.close (tie.spec is-word-byte-requires returns returns-2 returns-3 returns-4 returns-5)

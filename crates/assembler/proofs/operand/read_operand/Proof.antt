@@ -36,8 +36,8 @@ plain-word-requires c κs = search needs
 enum-told-3 : tie.Need-enum-told-3
 enum-told-3 c = search needs
 
-pattern-of-requires : tie.Need-pattern-of-requires
-pattern-of-requires c κs = search needs
+float-of-requires : tie.Need-float-of-requires
+float-of-requires c κs = search needs
 
 plain-word-requires-2 : tie.Need-plain-word-requires-2
 plain-word-requires-2 c κs = search needs
@@ -81,7 +81,7 @@ returns-3 c =
     let a = c .before .before .before .before .before .before .before .args in
     let s = a .src .now in
     let t = take (a .end - a .start) (drop (a .start) s) in
-    let e = ap (λ (k : Kind). operandOfKind k (a .code) (a .start) t) (sym (c .before .before .before .before .kind-of .ensures) ∙ c .before .before .enum-told3 .given .1) ∙ ap (plainNumber (a .code)) (sym (c .before .pattern-of .ensures)) in
+    let e = ap (λ (k : Kind). operandOfKind k (a .code) (a .start) t) (sym (c .before .before .before .before .kind-of .ensures) ∙ c .before .before .enum-told3 .given .1) ∙ ap (plainNumber (a .code)) (sym (c .before .float-of .ensures)) in
     rw e (c .plain-word2 .ensures s)
 
 returns-4 : tie.Need-returns-4
@@ -115,7 +115,7 @@ read-operand-spec =
     number-of-requires
     plain-word-requires
     enum-told-3
-    pattern-of-requires
+    float-of-requires
     plain-word-requires-2
     enum-told-4
     number-of-requires-2

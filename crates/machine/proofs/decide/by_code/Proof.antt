@@ -155,6 +155,18 @@ program-cell-requires c κs = tt
 on-push-requires-5 : tie.Need-on-push-requires-5
 on-push-requires-5 c κs = c .before .before .before .before .pre .0
 
+top-requires-16 : tie.Need-top-requires-16
+top-requires-16 c κs = c .before .before .before .pre .1
+
+on-to-float-requires : tie.Need-on-to-float-requires
+on-to-float-requires c κs = c .before .before .before .before .pre .0
+
+top-requires-17 : tie.Need-top-requires-17
+top-requires-17 c κs = c .before .before .before .pre .1
+
+on-to-int-requires : tie.Need-on-to-int-requires
+on-to-int-requires c κs = c .before .before .before .before .pre .0
+
 on-two-requires : tie.Need-on-two-requires
 on-two-requires c κs = (c .before .before .before .pre .0, c .before .before .before .pre .1, left-over _ (c .before .before .before .pre .2) (c .match .rest))
 
@@ -264,7 +276,15 @@ returns-26 c = rw (c .before .before .match .keys26, c .on-push5 .ensures (memor
 
 returns-27 : tie.Need-returns-27
 unfolding decide onValues actionOf rowOf rows
-returns-27 c = c .on-two .ensures _
+returns-27 c = rw (c .before .before .match .keys27, c .on-to-float .ensures (memory (c .before .before .before .before .before .args .bits .now) (c .before .before .before .before .before .args .tags .now) []), c .before .top16 .ensures)
+
+returns-28 : tie.Need-returns-28
+unfolding decide onValues actionOf rowOf rows
+returns-28 c = rw (c .before .before .match .keys28, c .on-to-int .ensures (memory (c .before .before .before .before .before .args .bits .now) (c .before .before .before .before .before .args .tags .now) []), c .before .top17 .ensures)
+
+returns-29 : tie.Need-returns-29
+unfolding decide onValues actionOf rowOf rows
+returns-29 c = c .on-two .ensures _
 
 pub by-code-spec : {M : Type 1} → statement M
 by-code-spec =
@@ -319,6 +339,10 @@ by-code-spec =
     on-jsr-ind-requires
     program-cell-requires
     on-push-requires-5
+    top-requires-16
+    on-to-float-requires
+    top-requires-17
+    on-to-int-requires
     on-two-requires
     returns
     returns-2
@@ -346,4 +370,6 @@ by-code-spec =
     returns-24
     returns-25
     returns-26
-    returns-27)
+    returns-27
+    returns-28
+    returns-29)

@@ -5,17 +5,17 @@ use native.Mathlib.Omega.{arith}
 use lib.ListN.{drop}
 use borrow.Author.Needs.{needs}
 use denote.Ref.{now}
-use Rattle.rules.specs.Instructions.{names}
+use Rattle.rules.specs.Instructions.{codes, names}
 use Rattle.rules.specs.Assemble.{placeIn, codeNamed}
 use Rattle.rules.proofs.Search.{named-yes, named-no, named-end}
 use Rattle.program.proofs.names.code_named.Statement.{statement}
 use Rattle.program.proofs.names.code_named.Tie as tie
 
 abbrev Inv-loop : tie.InvT-loop
-Inv-loop t code₀ code = (code ≤ 50) × (codeNamed t ≡ placeIn code (drop code names) t)
+Inv-loop t code₀ code = (code ≤ codes) × (codeNamed t ≡ placeIn code (drop code names) t)
 
 abbrev μ-loop : tie.MeasureT-loop
-μ-loop t code₀ code = 50 - code
+μ-loop t code₀ code = codes - code
 
 loop-holds : tie.Need-loop-holds Inv-loop μ-loop
 unfolding codeNamed
@@ -46,7 +46,7 @@ returns-2 : tie.Need-returns-2 Inv-loop μ-loop
 returns-2 c =
     let a = c .before .before .before .args in
     let v = c .before .loop in
-    let e : v .code ≡ 50 = omega arith in
+    let e : v .code ≡ codes = omega arith in
     sym (v .inv .1 ∙ ap (λ (k : ℕ). placeIn k (drop k names) (now (a .t))) e ∙ named-end (now (a .t)))
 
 pub code-named-spec : {M : Type 1} → statement M

@@ -1,0 +1,31 @@
+-- `machine::families::on_to_float` meets its contract. Assumes nothing.
+use borrow.Author.Tests.{lt-leb, le-leb, ne-eqb}
+use Rattle.machine.specs.Plan.{planned}
+use borrow.Author.Needs.{needs}
+use Rattle.machine.proofs.families.on_to_float.Statement.{statement}
+use Rattle.machine.proofs.families.on_to_float.Tie as tie
+
+returns : tie.Need-returns
+unfolding planned
+returns c m = rw (lt-leb _ _ (c .if1 .taken))
+
+returns-2 : tie.Need-returns-2
+unfolding planned
+returns-2 c m = rw (le-leb _ _ (c .before .before .if1 .left), ne-eqb _ _ (c .if2 .taken))
+
+int-to-f-requires : tie.Need-int-to-f-requires
+int-to-f-requires c κs = search needs
+
+float-cell-requires : tie.Need-float-cell-requires
+float-cell-requires c κs = search needs
+
+result-requires : tie.Need-result-requires
+result-requires c κs = search needs
+
+returns-3 : tie.Need-returns-3
+unfolding planned
+returns-3 c m =
+    rw (c .result .ensures m, c .before .float-cell .ensures, c .before .before .int-to-f .ensures, le-leb _ _ (c .before .before .before .before .before .if1 .left), c .before .before .before .if2 .left)
+
+pub on-to-float-spec : {M : Type 1} → statement M
+on-to-float-spec = tie.close (tie.spec returns returns-2 int-to-f-requires float-cell-requires result-requires returns-3)
