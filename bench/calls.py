@@ -7,13 +7,16 @@ from collections import Counter
 from itertools import groupby
 
 import sam
+from decimals import WELL_FORMED, marks
 from sam.table import NAMES
+from sam.text import read_token, tokens
 
 MARK = 0xA5  # the byte that lent memory holds before a call
 PLACES = 1024
 TEXT_BYTES = 20480
 IMAGE_BYTES = 4866
 ASSEMBLE_TOLD = 4  # values that assemble tells: length, place, line, column
+COUNTED_REFUSALS = (5, 6)  # of which the instruction is counted
 
 
 def marked(count, width):
@@ -40,6 +43,12 @@ def output_word(data):
     return f"{kept.hex()}+{len(data) - len(kept)}"
 
 
+def decimals_of(source):
+    """The decimals of a source that was assembled."""
+    words = [token.body.decode() for token in tokens(source)]
+    return [word for name, word in zip(words, words[1:]) if name == "PUSHIMMF" and WELL_FORMED.match(word)]
+
+
 class Script:
     def __init__(self):
         self.lines = []  # (line, the answer or None)
@@ -47,7 +56,9 @@ class Script:
         self.calls = Counter()
         self.fault_lines = Counter()  # (number, line) of assemble; 2 stands for every later line
         self.tests = Counter()  # (word, name, cells, number) of each instruction of TESTED (cases.py) made alone
-        self.address_refusals = Counter()  # (word, name, whether there is a history) of each 6
+        self.refused_steps = Counter()  # (word, name, number, whether there is a history) of each 5 and 6
+        self.codes = Counter()  # (word, code, number) of each image of one instruction
+        self.decimals = Counter()  # marks of those assembled, and (number, operand) of PUSHIMMF's refused
 
     def say(self, line):
         self.lines.append((line, None))
@@ -66,8 +77,17 @@ class Script:
             number, *told = sam.assemble(source, table)
             _, _, line, _ = told
             self.fault_lines[number, min(line, 2)] += 1
+            self.count_decimals(source, number, told[1])
         self.call_reading("assemble", source, table, told, number)
         return number, table, told
+
+    def count_decimals(self, source, number, place):
+        if number == 0 and b"." in source:
+            for decimal in decimals_of(source):
+                self.decimals.update(marks(decimal))
+        elif number in (25, 33) and source[:place].rstrip().endswith(b"PUSHIMMF"):
+            end = read_token(source, place).end
+            self.decimals[number, source[place:end].decode()] += 1
 
     def unpack(self, image, places=PLACES, told_length=1, word="unpack"):
         table, told, number = marked(places, 8), marked(told_length, 8), 31
@@ -126,15 +146,15 @@ class LentMachine:
         self.script.say(f"tags {list_word(self.state.tags)}")
         self.script.say(f"history {list_word(self.state.history)}")
 
-    def count_address_refusal(self, word):
-        """At a 6 the PC is that of the refused instruction."""
+    def count_refusal(self, word, number):
+        """At a 5 or 6 the PC is that of the refused instruction."""
         registers = self.state.registers
         name = NAMES[self.program.table[registers.pc] >> 32]
-        self.script.address_refusals[word, name, registers.h > 0] += 1
+        self.script.refused_steps[word, name, number, registers.h > 0] += 1
 
     def answer(self, line, number, told):
-        if number == 6:
-            self.count_address_refusal(line.split(" ", 1)[0])
+        if number in COUNTED_REFUSALS:
+            self.count_refusal(line.split(" ", 1)[0], number)
         self.script.call(
             line,
             number,

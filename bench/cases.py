@@ -4,11 +4,12 @@ from itertools import chain, product
 
 import sam
 from calls import ASSEMBLE_TOLD, IMAGE_BYTES, PLACES, TEXT_BYTES, LentMachine
-from programs import FLOAT_EDGES, INTEGER_EDGES, SUMS, TWO_FLOATS, TWO_INTEGERS
+from programs import CONVERSIONS, FLOAT_EDGES, FTOI_EDGES, INTEGER_EDGES, ITOF_EDGES, SUMS, TWO_FLOATS, TWO_INTEGERS
 from programs import any_integer, any_operand, any_pattern, any_program
 from sam.actions import FLOAT, INT, MA, PA
+from sam.image import CODE_WIDTH, COUNT_WIDTH, OPERAND_WIDTH
 from sam.machine import cell_place, cell_sound, step_place
-from sam.table import KINDS, NAMES
+from sam.table import KINDS, NAMES, NO_OPERAND
 from sources import any_source, corner_sources
 
 WORD = 1 << 32
@@ -18,9 +19,21 @@ DOUBLE_WORD = 1 << 64
 # ---- sources
 
 
+def list_again(script, table, length, size=TEXT_BYTES, told_length=1):
+    """The listing of a program, and what it is assembled to."""
+    program = sam.Program(table, length)
+    script.program(program)
+    listing = script.list(program, size, told_length)
+    if listing:
+        script.assemble(listing)
+
+
 def text_corners(script):
+    """Those with decimals are listed too: "Listings still write bits." """
     for source in corner_sources():
-        script.assemble(source.encode("latin-1"))
+        number, table, told = script.assemble(source.encode("latin-1"))
+        if number == 0 and "." in source:
+            list_again(script, table, told[0])
 
 
 def text_case(chooser, script):
@@ -30,12 +43,8 @@ def text_case(chooser, script):
     told_length = chooser.choice([ASSEMBLE_TOLD] * 50 + [0, 1, 2, 3, 5])
     number, table, told = script.assemble(source, places, told_length)
     if number == 0:
-        program = sam.Program(table, told[0])
-        script.program(program)
         size = chooser.choice([TEXT_BYTES] * 30 + [0, TEXT_BYTES - 1, TEXT_BYTES + 1])
-        listing = script.list(program, size, chooser.choice([1] * 30 + [0, 2]))
-        if listing:
-            script.assemble(listing)
+        list_again(script, table, told[0], size, chooser.choice([1] * 30 + [0, 2]))
 
 
 # ---- tables and images
@@ -110,6 +119,33 @@ def there_and_back(chooser, script, program, pack="pack", unpack="unpack"):
     script.unpack(image, places, told_length, unpack)
     for _ in range(3):
         script.unpack(damaged_image(chooser, image), word=unpack)
+
+
+def coded(code):
+    """An image and a program of one instruction with this code, which may be too high, and zeros for its operand."""
+    kind = KINDS[code] if code < len(KINDS) else NO_OPERAND
+    bits = f"{1:0{COUNT_WIDTH}b}{code:0{CODE_WIDTH}b}" + "0" * OPERAND_WIDTH[kind]
+    bits += "0" * (-len(bits) % 8)
+    return int(bits, 2).to_bytes(len(bits) // 8, "big"), sam.Program([code << 32] + [0] * (PLACES - 1), 1)
+
+
+def every_code(script, pack="pack", unpack="unpack"):
+    """Every code there can be in six bits: 43 in an image, 10 in a table, or done."""
+    for code in range(1 << CODE_WIDTH):
+        image, program = coded(code)
+        number, _, _ = script.unpack(image, word=unpack)
+        script.codes[unpack, code, number] += 1
+        script.program(program)
+        script.pack(program, word=pack)
+
+
+def image_corners(script):
+    """Packed, unpacked and listed."""
+    every_code(script)
+    for code in range(1 << CODE_WIDTH):
+        _, program = coded(code)
+        script.program(program)
+        script.list(program)
 
 
 def image_case(chooser, script):
@@ -267,7 +303,12 @@ def broken_case(chooser, script):
 TAGS = (INT, FLOAT, MA, PA)
 
 # Instructions that do another thing with another tag: how many values each takes, and the edges it is tried with.
-TESTED = {"EQUAL": (2, FLOAT_EDGES), "ISNIL": (1, FLOAT_EDGES), **{name: (2, INTEGER_EDGES) for name in SUMS}}
+TESTED = {
+    "EQUAL": (2, FLOAT_EDGES),
+    "ISNIL": (1, FLOAT_EDGES),
+    **{name: (2, INTEGER_EDGES) for name in SUMS},
+    **{name: (1, ITOF_EDGES + FTOI_EDGES) for name in CONVERSIONS},
+}
 
 
 def any_bits(chooser, tag, n):
@@ -333,8 +374,17 @@ def edge_addresses():
         yield program, stacked((MA, below % WORD), (INT, top % WORD), h=h)
 
 
+def edge_conversions():
+    """ITOF and FTOI without a history, with one that has no room for the record, and without a value."""
+    for name, tag in zip(CONVERSIONS, (INT, FLOAT)):
+        program = single(name)
+        for edge, h in product(TESTED[name][1], (0, 1)):
+            yield program, stacked((tag, edge % WORD), h=h)
+        yield program, stacked()
+
+
 def edge_states():
-    return chain(edge_pairs(), edge_tests(), edge_addresses())
+    return chain(edge_pairs(), edge_tests(), edge_addresses(), edge_conversions())
 
 
 def lend_single(script, word, program, state):
@@ -355,8 +405,11 @@ def step_and_back(script, program, state):
 
 
 def instruction_corners(script):
+    """Steps, and runs too where an end refuses."""
     for program, state in edge_states():
         step_and_back(script, program, state)
+    for program, state in chain(edge_addresses(), edge_conversions()):
+        lend_single(script, "run", program, state).run(1)
 
 
 def any_single(chooser):
@@ -383,6 +436,7 @@ def plain_single(script, program, state):
 
 
 def plain_corners(script):
+    every_code(script, "plain_pack", "plain_unpack")
     for program, state in edge_states():
         plain_single(script, program, state)
 
@@ -416,7 +470,7 @@ def plain_case(chooser, script):
 
 
 # What a family has before its cases are drawn.
-CORNERS = {"text": text_corners, "instruction": instruction_corners, "plain": plain_corners}
+CORNERS = {"text": text_corners, "image": image_corners, "instruction": instruction_corners, "plain": plain_corners}
 
 # Each family with its share of the cases.
 FAMILIES = {

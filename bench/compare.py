@@ -5,8 +5,9 @@
 
 DRIVER and COMMAND are commands: a program, or an emulator and a program. Exit status 1 where anything differs, a
 number of the documents was never given back, a fault of a source was never in a first line or never in a later one, a
-test of FLOATs that request b speaks of or a sum at the ends of 32 bits that request d speaks of was never made, or a
-step or a run was never refused at such a sum.
+test of FLOATs that request b speaks of, a sum at the ends of 32 bits that request d speaks of or a conversion that
+request e speaks of was never made, a step or a run was never refused at such a sum or conversion, or a kind of decimal
+or a code at the end of the codes was never read.
 """
 
 import argparse
@@ -20,8 +21,9 @@ from itertools import permutations, product
 import sam
 from calls import Script
 from cases import CORNERS, FAMILIES
-from programs import GREATEST, LEAST, MINUS_ZERO, NANS, SUMS, ZEROS
-from sam.actions import FLOAT, INT, MA
+from decimals import ALL_MARKS, ILL_FORMED, TOO_LONG
+from programs import CONVERSIONS, FTOI_ENDS, GREATEST, INFINITIES, INTEGER_TIES, LEAST, MINUS_ZERO, NANS, SUMS, ZEROS
+from sam.actions import FLOAT, INT, MA, PA
 from sam.table import WORD
 from sources import any_source, every_refusal
 
@@ -40,6 +42,19 @@ ADDRESS_ENDS = [  # what request d changed: an MA and an INT, the last accepted 
     ("SUB", (GREATEST, 0), (GREATEST, -1)),
     ("SUB", (-1, LEAST), (0, LEAST)),
 ]
+CONVERSION_TESTS = [  # what request e added: done, with no room for the record 8, of another tag 4, without a value 3
+    *[("ITOF", ((INT, (tie + by) % WORD),), 0) for tie in INTEGER_TIES for by in (-1, 0, 1)],
+    *[("ITOF", ((INT, value % WORD),), 0) for value in (0, 1, -1, LEAST, GREATEST)],
+    *[("FTOI", ((FLOAT, bits),), 0) for bits in [*ZEROS, *[last for last, _ in FTOI_ENDS]]],
+    *[("FTOI", ((FLOAT, bits),), 5) for bits in [*NANS, *INFINITIES, *[first for _, first in FTOI_ENDS]]],
+    ("ITOF", ((INT, 1),), 8),
+    *[("FTOI", ((FLOAT, last),), 8) for last, _ in FTOI_ENDS],
+    *[("ITOF", ((tag, 0),), 4) for tag in (FLOAT, MA, PA)],
+    *[("FTOI", ((tag, 0),), 4) for tag in (INT, MA, PA)],
+    *[(name, (), 3) for name in CONVERSIONS],
+]
+DECIMALS = [*ALL_MARKS, *[(33, word) for word in ILL_FORMED], *[(25, word) for word in TOO_LONG]]
+LAST_CODES = [(49, 0), (50, 0), (51, 0), (52, 43), (63, 43)]
 CUT = 400  # characters of a line that a difference shows
 
 
@@ -148,15 +163,20 @@ def sum_tests():
 
 def all_met(script):
     """Whether the cases led to every number, to every fault of a source in its first line and in a later one, to every
-    test of FLOATs and sum by the proved step and by the direct run, and to sums refused with and without a history."""
+    test of FLOATs, sum and conversion by the proved step and by the direct run, to sums and conversions refused with
+    and without a history, to every kind of decimal and to the last codes."""
     lines = product(FAULTS, (1, 2))
-    tests = [(word, *test) for word in ("step", "plain") for test in [*FLOAT_TESTS, *sum_tests()]]
-    refused_sums = product(("step", "run", "plain"), SUMS, (False, True))
+    tests = [(word, *test) for word in ("step", "plain") for test in [*FLOAT_TESTS, *sum_tests(), *CONVERSION_TESTS]]
+    refused = [*[(name, 6) for name in SUMS], ("FTOI", 5)]
+    steps = [(word, *of, h) for word, of, h in product(("step", "run", "plain"), refused, (False, True))]
+    codes = [(word, *code) for word, code in product(("unpack", "plain_unpack"), LAST_CODES)]
     complete = [
         all_in(script.numbers, ALL_NUMBERS, "never given back"),
         all_in(script.fault_lines, lines, "faults never in the first line (1) or never in a later one (2)"),
         all_in(script.tests, tests, "tests never made"),
-        all_in(script.address_refusals, refused_sums, "sums never refused without (False) or with (True) a history"),
+        all_in(script.refused_steps, steps, "never refused without (False) or with (True) a history"),
+        all_in(script.decimals, DECIMALS, "decimals never read, or (33, 25) never refused"),
+        all_in(script.codes, codes, "codes never unpacked, with their numbers"),
     ]
     return all(complete)
 

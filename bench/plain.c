@@ -1,6 +1,6 @@
-/* A direct C interpreter of document 01 with requests b and d of document 02, as one would write it for speed:
- * soundness is judged once, then a loop over one switch whose cases test, record and write their cells themselves. The
- * proved run is measured against it. */
+/* A direct C interpreter of document 01 with requests b, d and e of document 02, as one would write it for
+ * speed: soundness is judged once, then a loop over one switch whose cases test, record and write their cells
+ * themselves. The proved run is measured against it. */
 #include "plain.h"
 
 #include <stdbool.h>
@@ -78,6 +78,9 @@ static inline bool equal(struct cell below, struct cell top) {
 static inline bool nil(struct cell value) {
     return (value.tag == SAM_FLOAT ? value.bits & 0x7FFFFFFFu : value.bits) == 0;
 }
+
+/* Whether a conversion to int32_t, which cuts toward zero, is defined; it is of no NaN. */
+static inline bool within_integers(float value) { return value >= -0x1p31f && value < 0x1p31f; }
 
 /* ---- history places */
 
@@ -233,6 +236,12 @@ static uint32_t repeat(struct machine *m, uint64_t limit, uint64_t *made) {
         case JUMPIND: ONE_TAGGED(SAM_PA); POP; next = vt.bits; break;
         case JSR: PUSH(program_address(next)); next = operand; break;
         case JSRIND: ONE_TAGGED(SAM_PA); RESULT_OF_ONE(program_address(next)); next = vt.bits; break;
+        case ITOF: ONE_TAGGED(SAM_INT); RESULT_OF_ONE(rounded((float)(int32_t)vt.bits)); break;
+        case FTOI:
+            ONE_TAGGED(SAM_FLOAT);
+            if (!within_integers(as_float(vt.bits))) END(5);
+            RESULT_OF_ONE(integer((uint32_t)(int32_t)as_float(vt.bits)));
+            break;
         default: END(10); /* no sound table has another code */
         }
         pc = next;

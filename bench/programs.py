@@ -4,6 +4,7 @@ A Builder knows the tags of the values that the program made so far will have on
 level) and picks instructions that take them. At a small rate it puts in any instruction at all.
 """
 
+from decimals import any_decimal
 from sam.actions import FLOAT, INT, MA, PA
 from sam.table import INTEGER, KINDS, NAMES, OFFSET, PATTERN, TARGET
 
@@ -11,13 +12,29 @@ LEAST, GREATEST = -(2**31), 2**31 - 1  # of an INT, and of an MA
 INTEGER_EDGES = [
     0, 1, -1, 2, -2, 3, 7, 40, 255, 65535, 65536, 2**30, -(2**30), GREATEST, GREATEST - 1, LEAST, LEAST + 1,
 ]  # fmt: skip
+# INTs at a tie of binary32, which go down and up: halfway between numbers that are 2, 4 and 128 apart.
+INTEGER_TIES = [
+    2**24 + 1, 2**24 + 3, 2**25 - 1, 2**25 + 2, 2**25 + 6, 2**30 + 64, 2**30 + 192, 2**31 - 64, 2**31 - 192,
+    -(2**24) - 1, -(2**24) - 3, 64 - 2**31, 192 - 2**31,
+]  # fmt: skip
+BESIDE_INTEGERS = {edge + by for edge in [*INTEGER_TIES, *INTEGER_EDGES] for by in (-1, 0, 1)}
+ITOF_EDGES = sorted(edge for edge in BESIDE_INTEGERS if LEAST <= edge <= GREATEST)
 MINUS_ZERO = 0x80000000
 ZEROS = [0x00000000, MINUS_ZERO]
+INFINITIES = [0x7F800000, 0xFF800000]
 NANS = [0x7F800001, 0x7FC00000, 0x7FFFFFFF, 0xFF800001, 0xFFC00000, 0xFFFFFFFF]  # signalling and quiet
 FLOAT_EDGES = [
     *ZEROS, 0x00000001, 0x80000001, 0x007FFFFF, 0x807FFFFF, 0x00800000, 0x80800000, 0x00800001, 0x3F800000, 0xBF800000,
     0x3F800001, 0x3F7FFFFF, 0x40200000, 0x40490FDB, 0x33800000, 0x34000000, 0x4B800000, 0x7F7FFFFF, 0xFF7FFFFF,
-    0x7F800000, 0xFF800000, *NANS,
+    *INFINITIES, *NANS,
+]  # fmt: skip
+# FLOATs at the ends of INT: the last that FTOI takes and the first that it refuses, above 0 and below.
+FTOI_ENDS = [(0x4EFFFFFF, 0x4F000000), (0xCF000000, 0xCF000001)]
+# Besides those and the edges above: 0.5, 1.5, 2.75, 8388607.5 and numbers next to 1 and to 2^24, of both signs.
+FTOI_EDGES = [
+    *FLOAT_EDGES, *[end for ends in FTOI_ENDS for end in ends],
+    *[bits | sign for sign in ZEROS
+      for bits in (0x3F000000, 0x3FC00000, 0x40300000, 0x4AFFFFFF, 0x3F800001, 0x4B7FFFFF, 0x4B800001)],
 ]  # fmt: skip
 
 TWO_INTEGERS = """
@@ -27,6 +44,7 @@ SUMS = ["ADD", "SUB"]  # of two INTs, or of an MA and an INT
 # From 0 to an end of an address's range, or next to it, and back: there, back, by how much.
 FAR_TRIPS = [("ADD", "SUB", LEAST), ("ADD", "SUB", GREATEST), ("SUB", "ADD", GREATEST), ("SUB", "ADD", -GREATEST)]
 ONE_INTEGER = ["NOT", "BITNOT", "ISPOS", "ISNEG"]
+CONVERSIONS = ["ITOF", "FTOI"]
 TWO_FLOATS = ["ADDF", "SUBF", "TIMESF", "DIVF"]
 
 
@@ -34,6 +52,7 @@ def any_integer(chooser):
     return chooser.choice(
         [
             chooser.choice(INTEGER_EDGES),
+            chooser.choice(ITOF_EDGES),
             chooser.randrange(-20, 21),
             chooser.randrange(-(2**31), 2**31),
         ]
@@ -42,18 +61,23 @@ def any_integer(chooser):
 
 def any_pattern(chooser):
     """Edges; patterns near one in size, so that sums round and cancel; small and large ones, whose products and
-    quotients leave the range; short fractions, whose results are ties."""
+    quotients leave the range; those of an INT's size; short fractions, whose results are ties."""
     fraction = chooser.choice([chooser.randrange(1 << 23), chooser.randrange(1 << 12) << 11, chooser.randrange(1 << 8)])
-    exponent = chooser.choice([chooser.randrange(120, 135), chooser.randrange(50, 80), chooser.randrange(180, 200)])
-    sized = chooser.randrange(2) << 31 | exponent << 23 | fraction
-    return chooser.choice([chooser.choice(FLOAT_EDGES), sized, sized, chooser.randrange(1 << 32)])
+    exponents = chooser.choice([range(120, 135), range(50, 80), range(180, 200), range(126, 160)])
+    sized = chooser.randrange(2) << 31 | chooser.choice(exponents) << 23 | fraction
+    return chooser.choice([chooser.choice(FTOI_EDGES), sized, sized, chooser.randrange(1 << 32)])
+
+
+def any_float_operand(chooser):
+    """PUSHIMMF's: a decimal or bits."""
+    return any_decimal(chooser) if chooser.randrange(3) == 0 else f"#{any_pattern(chooser):08X}"
 
 
 def any_operand(chooser, kind, length):
     if kind == INTEGER:
         return f" {any_integer(chooser)}"
     if kind == PATTERN:
-        return f" #{any_pattern(chooser):08X}"
+        return f" {any_float_operand(chooser)}"
     if kind == OFFSET:
         return f" {chooser.choice([chooser.randrange(-3, 8), chooser.randrange(-999, 1000)])}"
     if kind == TARGET:
@@ -96,7 +120,7 @@ class Builder:
             self.put(f"PUSHIMM {any_integer(chooser)}")
             self.tags.append(INT)
         elif kind < 6:
-            self.put(f"PUSHIMMF #{any_pattern(chooser):08X}")
+            self.put(f"PUSHIMMF {any_float_operand(chooser)}")
             self.tags.append(FLOAT)
         elif kind == 6:
             self.put(chooser.choice(["PUSHSP", "PUSHFBR"]))
@@ -114,7 +138,9 @@ class Builder:
         if top == [FLOAT, FLOAT]:
             choices += [(name, 2, FLOAT) for name in TWO_FLOATS * 3] + [("CMPF", 2, INT)] * 2
         if top[-1] == INT:
-            choices += [(name, 1, INT) for name in ONE_INTEGER]
+            choices += [(name, 1, INT) for name in ONE_INTEGER] + [("ITOF", 1, FLOAT)]
+        if top[-1] == FLOAT and chooser.randrange(3) == 0:  # seldom, since of any FLOAT it is often refused
+            choices.append(("FTOI", 1, INT))
         if top == [MA, INT]:
             choices += [(name, 2, MA) for name in SUMS]
         if len(top) == 2:
@@ -124,6 +150,19 @@ class Builder:
             self.put("PUSHIMM 3", "BITOR")  # seldom by zero
         self.put(name)
         self.tags[len(self.tags) - pops :] = [leaves]
+
+    def convert(self):
+        """There, and half the time back: decimals are within INT, and so is what ITOF makes, save near the greatest."""
+        chooser = self.chooser
+        start, there, back, tags = chooser.choice(
+            [
+                (f"PUSHIMMF {any_decimal(chooser)}", "FTOI", "ITOF", [INT, FLOAT]),
+                (f"PUSHIMM {any_integer(chooser)}", "ITOF", "FTOI", [FLOAT, INT]),
+            ]
+        )
+        is_back = chooser.randrange(2)
+        self.put(start, there, *[back] * is_back)
+        self.tags.append(tags[is_back])
 
     def swap(self):
         if len(self.tags) >= 2:
@@ -213,7 +252,7 @@ class Builder:
         else:
             most = [self.push_something] * 6 + [self.work] * 10
             some = [self.swap, self.copy_up, self.store_top, self.move_sp, self.loop, self.branch, self.call]
-            chooser.choice(most + some + [self.copy_by_far_address])()
+            chooser.choice(most + some + [self.convert, self.copy_by_far_address])()
 
     def source(self, pieces):
         for _ in range(pieces):

@@ -2,21 +2,32 @@
 
 from itertools import product
 
+import decimals
+from decimals import any_decimal, damaged_decimal
 from programs import any_program
 
 GOOD_TOKENS = ["STOP", "ADD", "PUSHIMM 5", "PUSHIMM -2147483648", "PUSHIMMF #7fC0abcd", "ADDSP -999", "PUSHOFF 999",
                "JUMP 0", "JUMP -0", "JUMPC a", "a:", "b:", "JSR b", "PUSHIMMPA end", "end:", "ADD:", "JUMP ADD",
-               "//", "// any @ bytes\n", "\n", "\t", "\r", "JUMP 0000000001", "PUSHIMM 0000000001"]  # fmt: skip
+               "//", "// any @ bytes\n", "\n", "\t", "\r", "JUMP 0000000001", "PUSHIMM 0000000001",
+               "PUSHIMMF 2.5", "PUSHIMMF -0.0", "PUSHIMMF 16777217.1", "PUSHIMMF 0.3//0.3\n",
+               "ITOF", "FTOI", "ITOF:"]  # fmt: skip
 ODD_TOKENS = ["FOO", "stop", "5", "-", "#", ":", "::", "_a", "a-b", "5:", "a::", "/", "a/b", "@", "\x00", "\xff",
               "PUSHIMM", "PUSHIMM x", "PUSHIMM 5:", "PUSHIMM 2147483648", "PUSHIMM 00000000001", "PUSHIMM -",
               "PUSHIMM - 5", "PUSHIMMF #123", "PUSHIMMF #1234567G", "PUSHIMMF 5", "ADDSP 1000", "STOREOFF -1000",
               "JUMP 99", "JUMP -1",
               "JUMP 12345678901", "JUMP #00000000", "JUMP missing", "JUMP a:", "JUMP " + "x" * 33, "x" * 33 + ":",
-              "x" * 32 + ":", "JUMP", "STOP//", "ADD/STOP", "a:STOP", "a:b:", "PUSHIMM 5//5"]  # fmt: skip
+              "x" * 32 + ":", "JUMP", "STOP//", "ADD/STOP", "a:STOP", "a:b:", "PUSHIMM 5//5",
+              ".", "..", "2.5", "2.5:", ".:", "ADD.", ".ADD", "A.DD", "a.b:", "a.:", ".a:", "JUMP a.b", "JUMP .",
+              "JUMP 1.0", "PUSHIMM 1.5", "PUSHIMM 5.", "PUSHIMM 12345678901.5", "ADDSP -1.0", "PUSHIMMF",
+              "PUSHIMMF .5", "PUSHIMMF 5.", "PUSHIMMF 2.5:", "PUSHIMMF 12345678.90", "PUSHIMMF 12345678.90:",
+              "PUSHIMMF - 2.5", "PUSHIMMF 2 .5", "PUSHIMMF 2./5", "PUSHIMMF +2.5", "PUSHIMMF 2,5",
+              "ITOF 5", "FTOI 2.5", "itof", "FTOI.",
+              "JUMP " + "x" * 32 + ".", "x" * 33 + ".:"]  # fmt: skip
 
 LINE_ENDS = ["\n", "\n", "\r\n", "\n\n", "\r\n \r\n", " // any @ bytes\n", "//\r\n", "\r\r\n"]
 SOURCE_ENDS = ["", "\n", "\r\n", "\n\n  ", " // no LF behind", "// an LF behind\n"]
 SIZE_LIMIT = 65536
+EDGES_OF_ONE = 256  # decimals of one source
 
 
 def joined(chooser, pieces, gaps):
@@ -61,15 +72,34 @@ def damaged_source(chooser):
     source = bytearray(good_source(chooser))
     for _ in range(chooser.randrange(1, 4)):
         at = chooser.randrange(len(source) + 1)
-        byte = chooser.choice(list(b" \n\r:#-_/aZ09@\x00\xff") + [chooser.randrange(256)])
+        byte = chooser.choice(list(b" \n\r:#-_./aZ09@\x00\xff") + [chooser.randrange(256)])
         source[at : at + chooser.randrange(2)] = bytes([byte] * chooser.randrange(2))
     return bytes(source)
 
 
 def random_bytes_source(chooser):
-    letters = b"ADSTOPJUMPC \n\n\r:/#-_0123456789ab@"
+    letters = b"ADSTOPJUMPC \n\n\r:/#-_..0123456789ab@"
     start = chooser.choice([b"", b"STOP\n", b"ADD // one\r\n\r\n"])
     return start + bytes(chooser.choice(letters) for _ in range(chooser.randrange(40)))
+
+
+def decimal_source(chooser):
+    """Decimals, and in some sources one that is most often of wrong form or too long."""
+    words = [any_decimal(chooser) for _ in range(chooser.randrange(1, 12))]
+    if chooser.randrange(3) == 0:
+        words[chooser.randrange(len(words))] = damaged_decimal(chooser)
+    gap = chooser.choice([" ", " ", "\t", "\n", "\r\n  ", " // 2.5\n"])
+    return in_lines(chooser, [f"PUSHIMMF{gap}{word}" for word in words])
+
+
+def decimal_corners():
+    """Every edge, of both signs; then what is refused, alone and behind other lines, each of them a source."""
+    edges = list(dict.fromkeys(decimals.edges()))
+    edges += ["-" + edge for edge in edges]
+    for start in range(0, len(edges), EDGES_OF_ONE):
+        yield "".join(f"PUSHIMMF {edge}\n" for edge in edges[start : start + EDGES_OF_ONE])
+    for before, word in product(("", "STOP\n\t"), decimals.ILL_FORMED + decimals.TOO_LONG):
+        yield f"{before}PUSHIMMF {word}"
 
 
 def many_labels(count, gap):
@@ -83,6 +113,7 @@ def full_sources():
             yield "STOP\n" * count + tail
         yield "JUMP end " * count + "end:"
         yield "PUSHIMM -2147483648\n" * count
+        yield "PUSHIMMF -99999999.9\n" * count
     for count, gap in product((255, 256, 257), (" ", "\n", "\r\n")):
         for tail in ("", "l7:", "x:", "l7: x:", "x" * 33 + ":"):
             yield many_labels(count, gap) + tail
@@ -107,6 +138,9 @@ def every_refusal():
     yield many_labels(257, "\r\n")
     yield "STOP\nJUMP\n" + "x" * 33
     yield "STOP\nPUSHIMM\n ADD"
+    yield "STOP\nADD."
+    yield "STOP\nPUSHIMMF 2."
+    yield "STOP\nPUSHIMMF 12345678.90"
 
 
 def line_corners():
@@ -123,12 +157,13 @@ def corner_sources():
             for after in ("", ":", " a:"):
                 yield before + token + after
     yield from line_corners()
+    yield from decimal_corners()
     yield from full_sources()
     yield from every_refusal()
 
 
 def any_source(chooser):
-    kind = chooser.randrange(16)
+    kind = chooser.randrange(20)
     if kind < 4:
         return token_source(chooser)
     if kind < 7:
@@ -139,4 +174,6 @@ def any_source(chooser):
         return damaged_source(chooser)
     if kind < 13:
         return random_bytes_source(chooser)
+    if kind < 17:
+        return decimal_source(chooser)
     return good_source(chooser)

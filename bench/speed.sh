@@ -1,16 +1,17 @@
 #!/bin/sh
-# Sets the proved run, packer and unpacker beside the direct ones of plain.c and plain_image.c: bench/speed.sh [STEPS]
-# prints millions of steps a second and nanoseconds an instruction packed, bench/speed.sh --count machine instructions,
-# which have no noise but need valgrind. The direct ones are compiled by gcc -O2 and, where at hand, by clang -O3. Needs
-# target/staticlib/libsam_c.a (`rt staticlib sam_c`). On another processor than x86-64 all run in the same emulator,
-# only the ratios say something, and nothing can be counted.
+# Sets the proved run, packer and unpacker beside the direct ones of plain.c and plain_image.c, and decimals beside
+# patterns in the proved assembler: bench/speed.sh [STEPS] prints millions of steps a second and nanoseconds an
+# instruction packed or assembled, bench/speed.sh --count machine instructions, which have no noise but need valgrind.
+# The direct ones are compiled by gcc -O2 and, where at hand, by clang -O3. Needs target/staticlib/libsam_c.a
+# (`rt staticlib sam_c`). On another processor than x86-64 all run in the same emulator, only the ratios say something,
+# and nothing can be counted.
 set -eu
 cd "$(dirname "$0")/.."
 . bench/toolchain.sh
 library=target/staticlib/libsam_c.a
 limit=2500  # steps of a counted run: no record is above three places, so a history of 8,192 holds them
 runs=10     # COUNTED_RUNS of speed.c
-calls=10    # counted calls of a packer or unpacker
+calls=10    # counted calls of a packer, unpacker or assembler
 places=1024 # instructions of a full program
 
 skip() {
@@ -31,10 +32,10 @@ a_step() {
     awk "BEGIN { printf \"%.1f\", ($with - $without) / ($limit * $runs) }"
 }
 
-# Instructions for one of the program's of SIDE NAME: those of calls, less those of none.
+# Instructions for one of the program's, of PROGRAM SIDE NAME or PROGRAM NAME: those of calls, less those of none.
 a_place() {
-    with=$(instructions "$image_speed" "$@" "$calls")
-    without=$(instructions "$image_speed" "$@" 0)
+    with=$(instructions "$@" "$calls")
+    without=$(instructions "$@" 0)
     awk "BEGIN { printf \"%.1f\", ($with - $without) / ($calls * $places) }"
 }
 
@@ -53,8 +54,29 @@ count_all() {
     done
     echo "machine instructions an instruction of a full program, by valgrind"
     "$image_speed" names | while read -r name; do
-        print_counts "$name" "$(a_place sam "$name")" "$(a_place plain "$name")"
+        print_counts "$name" "$(a_place "$image_speed" sam "$name")" "$(a_place "$image_speed" plain "$name")"
     done
+}
+
+count_texts() {
+    echo "machine instructions an instruction assembled, by valgrind"
+    "$text_speed" names | while read -r name; do
+        counted=$(a_place "$text_speed" "$name")
+        : "${first:=$counted}"
+        awk -v name="$name" -v sam="$counted" -v first="$first" 'BEGIN {
+            printf "%-16s sam %8.1f   to patterns %.2f\n", name, sam, sam / first }'
+    done
+}
+
+# Decimals beside patterns: the library alone, so one compiler will do.
+texts() {
+    text_speed=target/bench/text_speed
+    "$CC" $FLAGS -Iinclude bench/text_speed.c "$library" -o "$text_speed"
+    if [ "${1:-}" = --count ]; then
+        count_texts
+    else
+        $RUN "$text_speed"
+    fi
 }
 
 # against COMPILER OPTION [STEPS]
@@ -80,6 +102,7 @@ if [ "${1:-}" = --count ]; then
     first_command valgrind >/dev/null || skip "there is no valgrind (Debian: valgrind)"
 fi
 mkdir -p target/bench
+texts "$@"
 against "$CC" -O2 "$@"
 if [ -n "$CLANG" ]; then
     against "$CLANG" -O3 "$@"

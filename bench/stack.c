@@ -20,7 +20,7 @@ static void die(const char *why) {
 
 /* ---- what is lent to the calls */
 
-enum { BLOCKS = SAM_TABLE_PLACES / 4, STEPS = 1000 };
+enum { BLOCKS = SAM_TABLE_PLACES / 8, STEPS = 1000 };
 
 static char source[SAM_SOURCE_LIMIT];
 static size_t source_len, image_len;
@@ -69,11 +69,13 @@ static void pack_by_a_copy(void) {
     memcpy(image, copy, sizeof copy);
 }
 
-/* All 256 labels, every form of operand, the longest number; for ever in its first four instructions. */
+/* All 256 labels, every form of operand, the longest number and decimal, both conversions; for ever in its first eight
+ * instructions. */
 static void write_full_source(void) {
     for (int i = 0; i < BLOCKS; i++) {
         source_len += (size_t)sprintf(source + source_len,
-                                      "a%d: PUSHIMM -2147483648 PUSHIMMF #FFFFFFFF ADDSP -2 JUMP a%d\n", i, i);
+                                      "a%d: PUSHIMM -2147483648 ITOF PUSHIMMF -99999999.9 JUMP b%d\n"
+                                      "b%d: FTOI PUSHIMMF #FFFFFFFF ADDSP -3 JUMP a%d\n", i, i, i, i);
     }
 }
 

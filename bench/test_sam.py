@@ -1,6 +1,6 @@
 #!/usr/bin/env python3
-"""Tests of the interpreter in sam/: the twelve P examples of document 01, its sentences, requests a, b and d, and the
-settled readings.
+"""Tests of the interpreter in sam/: the twelve P examples of document 01, its sentences, requests a, b, d and e,
+and the settled readings.
 
 Every expected value is read off the documents or worked out by hand; none is copied from an output.
 """
@@ -10,8 +10,10 @@ import random
 import struct
 import unittest
 from dataclasses import replace
+from fractions import Fraction
 from itertools import product
 
+import decimals
 import sam
 from sam import floats
 from sam.actions import FLOAT, INT, MA, PA
@@ -281,7 +283,10 @@ class Tables(unittest.TestCase):
         for places, length in [
             (table(), 1025),
             (table(1), 1),  # STOP with an operand
-            (table(50 << 32), 1),
+            (table(52 << 32), 1),
+            (table(63 << 32), 1),
+            (table(50 << 32 | 1), 1),  # ITOF with an operand
+            (table(51 << 32 | 1), 1),
             (table(1 << 38), 1),
             (table(0, 5 << 32), 1),  # an unused place not zero
             (table(39 << 32 | 1000), 1),
@@ -309,7 +314,8 @@ class Images(unittest.TestCase):
             (count(1) + code(1) + "0" * 16, 41),
             (count(1025), 42),
             (count(2047), 42),
-            (count(1) + code(50), 43),
+            (count(1) + code(52), 43),
+            (count(2) + code(51) + code(52), 43),
             (count(1) + code(63), 43),
             (count(1) + code(39) + format(1000, "011b"), 44),
             (count(1) + code(43) + format(2048 - 1000, "011b"), 44),
@@ -741,6 +747,482 @@ class AddressSums(unittest.TestCase):
             sam.console(b"PUSHFBR PUSHIMM -2147483648 ADD STOP"),
             "end 0 steps 4\nPC 3 SP 1 FBR 0\n0 MA -2147483648\n",
         )
+
+
+class Decimals(unittest.TestCase):
+    """Request e: PUSHIMMF of a decimal."""
+
+    # Each tie with its lower and its upper neighbour, as decimals, and the bits of the even one.
+    TIES = [
+        # From 2^22 a binary32 is half a unit from the next.
+        ("4194304.25", "4194304.0", "4194304.5", 0x4A800000),
+        ("4194304.75", "4194304.5", "4194305.0", 0x4A800002),
+        ("5000000.25", "5000000.0", "5000000.5", 0x4A989680),
+        ("8388607.25", "8388607.0", "8388607.5", 0x4AFFFFFE),
+        ("8388607.75", "8388607.5", "8388608.0", 0x4B000000),  # up to a power of two
+        # From 2^23 a whole one.
+        ("8388608.5", "8388608.0", "8388609.0", 0x4B000000),
+        ("8388609.5", "8388609.0", "8388610.0", 0x4B000002),
+        ("8388608.50", "8388608.0", "8388609.0", 0x4B000000),
+        ("10000001.5", "10000001.0", "10000002.0", 0x4B189682),
+        ("16777214.5", "16777214.0", "16777215.0", 0x4B7FFFFE),
+        ("16777215.5", "16777215.0", "16777216.0", 0x4B800000),
+        # From 2^24 two, from 2^25 four, from 2^26 eight.
+        ("16777217.0", "16777216.0", "16777218.0", 0x4B800000),
+        ("16777219.0", "16777218.0", "16777220.0", 0x4B800002),
+        ("33554431.0", "33554430.0", "33554432.0", 0x4C000000),
+        ("33554434.0", "33554432.0", "33554436.0", 0x4C000000),
+        ("33554438.0", "33554436.0", "33554440.0", 0x4C000002),
+        ("67108862.0", "67108860.0", "67108864.0", 0x4C800000),
+        ("67108868.0", "67108864.0", "67108872.0", 0x4C800000),
+        ("67108876.0", "67108872.0", "67108880.0", 0x4C800002),
+        ("99999996.0", "99999992.0", "99999999.9", 0x4CBEBC20),
+    ]
+
+    # 10^i is 5^i 2^i; the rest are the patterns nearest to 10^-i.
+    POWERS_OF_TEN = [
+        ("1.0", 0x3F800000), ("10.0", 0x41200000), ("100.0", 0x42C80000), ("1000.0", 0x447A0000),
+        ("10000.0", 0x461C4000), ("100000.0", 0x47C35000), ("1000000.0", 0x49742400), ("10000000.0", 0x4B189680),
+        ("0.1", 0x3DCCCCCD), ("0.01", 0x3C23D70A), ("0.001", 0x3A83126F), ("0.0001", 0x38D1B717),
+        ("0.00001", 0x3727C5AC), ("0.000001", 0x358637BD), ("0.0000001", 0x33D6BF95), ("0.00000001", 0x322BCC77),
+    ]  # fmt: skip
+
+    def bits(self, text):
+        answer, table = assembled(f"PUSHIMMF {text}")
+        self.assertEqual(answer, (0, 1, 0, 0, 0), text)
+        self.assertEqual(table[0] >> 32, 2, text)
+        return table[0] % WORD
+
+    def exact(self, text):
+        whole, _, fraction = text.partition(".")
+        return Fraction(int(whole + fraction), 10 ** len(fraction))
+
+    def host_value(self, bits):
+        """The host's reading of the bits, which is exact."""
+        return Fraction(struct.unpack("<f", struct.pack("<I", bits))[0])
+
+    def check_nearest(self, text):
+        """The distances to the neighbours, by cross products; where two are alike, the last bit is 0. Minus beside."""
+        bits, exact = self.bits(text), self.exact(text)
+        distance = abs(self.host_value(bits) - exact)
+        for other in (bits - 1, bits + 1):
+            beside = abs(self.host_value(other) - exact) if other >= 0 else None
+            if beside is not None:
+                self.assertTrue(distance < beside or (distance == beside and bits % 2 == 0), text)
+        self.assertEqual(self.bits("-" + text), bits | 1 << 31, text)
+
+    def test_examples(self):
+        for text, bits in [
+            ("2.5", 0x40200000),
+            ("02.50", 0x40200000),
+            ("000002.50", 0x40200000),
+            ("2.5000000", 0x40200000),
+            ("-2.5", 0xC0200000),
+            ("40.0", 0x42200000),
+            ("0.5", 0x3F000000),
+            ("0.00390625", 0x3B800000),  # 2^-8
+            ("67108864.0", 0x4C800000),  # 2^26
+            ("3.14159265", 0x40490FDB),
+            ("99999999.9", 0x4CBEBC20),  # 10^8 is 12500000 times 8
+            ("-99999999.9", 0xCCBEBC20),
+            ("0.99999997", 0x3F7FFFFF),  # 3 from 1 where half a unit is 2.98
+            ("0.99999998", 0x3F800000),  # 2 from 1
+            ("1.99999994", 0x3FFFFFFF),  # 6 from 2 where half a unit is 5.96
+            ("1.99999995", 0x40000000),
+            ("33554433.0", 0x4C000000),  # a quarter of the way from 2^25
+            ("33554435.0", 0x4C000001),
+            ("0.33333333", 0x3EAAAAAB),
+            ("0.66666667", 0x3F2AAAAB),
+        ]:
+            self.assertEqual(self.bits(text), bits, text)
+
+    def test_zeros(self):
+        """ "Minus zero keeps its sign." """
+        for length in range(2, 10):
+            for point in range(1, length):
+                text = "0" * point + "." + "0" * (length - point)
+                self.assertEqual((self.bits(text), self.bits("-" + text)), (0x00000000, 0x80000000), text)
+
+    def test_powers(self):
+        for text, bits in self.POWERS_OF_TEN:
+            self.assertEqual((self.bits(text), self.bits("-" + text)), (bits, bits | 1 << 31), text)
+            self.check_nearest(text)
+        for i in range(27):  # 2^i: exponent i, fraction 0
+            self.assertEqual(self.bits(f"{2**i}.0"), (127 + i) << 23)
+        for i in range(1, 9):  # 2^-i is 5^i / 10^i
+            self.assertEqual(self.bits("0." + str(5**i).zfill(i)), (127 - i) << 23)
+
+    def test_ties(self):
+        """ "ties to even", and one in the last digit off a tie to the nearer one."""
+        for text, below, above, even in self.TIES:
+            self.assertEqual(self.bits(text), even, text)
+            self.assertEqual(self.bits("-" + text), even | 1 << 31, text)
+            self.assertIn(even, (self.bits(below), self.bits(above)), text)
+            self.assertEqual(self.bits(below) + 1, self.bits(above), text)
+            for last, nearer in [(-1, below), (1, above)]:
+                places = len(text.partition(".")[2])
+                digits = str(int(text.replace(".", "")) + last)
+                self.assertEqual(self.bits(f"{digits[:-places]}.{digits[-places:]}"), self.bits(nearer), (text, last))
+
+    def test_hard(self):
+        """As near to a tie as nine digits come: 65536 times 100325948 is 390625 times 16831901 and 3, so 1.00325948 is
+        16831901 halves of 2^-23 and 3 / 390625 of one; so on below."""
+        for text, halves, rest, bits in [
+            ("1.00325948", 16831901, 3, 0x3F806ACF),  # 8415950 and a half, 3 above; even below
+            ("1.00064677", 16788067, -3, 0x3F801531),  # 8394033 and a half, 3 below; even above
+            ("1.00369066", 16839135, 1, 0x3F8078F0),  # 8419567 and a half, 1 above
+            ("1.00021559", 16780833, -1, 0x3F800710),  # 8390416 and a half, 1 below
+        ]:
+            self.assertEqual(65536 * int(text.replace(".", "")), 390625 * halves + rest, text)
+            self.assertEqual(self.bits(text), 0x3F800000 + (halves + (rest > 0)) // 2 - 8388608, text)
+            self.assertEqual(self.bits(text), bits, text)
+            self.check_nearest(text)
+
+    def test_whole_part_first(self):
+        """Right only where whole and fraction are rounded together, and once."""
+        self.assertEqual(self.bits("16777217.1"), 0x4B800001)  # 16777217 by itself goes to 16777216
+        self.assertEqual(self.bits("16777218.9"), 0x4B800001)  # to 16777219 by itself, and on to 16777220
+        self.assertEqual(self.bits("33554434.1"), 0x4C000001)
+        self.assertEqual(self.bits("67108868.1"), 0x4C800001)
+        self.assertEqual(self.bits("8388608.51"), 0x4B000001)  # 8388608.5 by itself goes to 8388608
+        self.assertEqual(self.bits("8388609.49"), 0x4B000001)  # to 8388609.5, then to 8388610
+
+    def test_every_length_and_point(self):
+        for length in range(2, 10):
+            for digits in ("123456789", "987654321", "999999999", "100000001", "000000001", "499999999", "500000000"):
+                for point in range(1, length):
+                    self.check_nearest(digits[-length:][:point] + "." + digits[-length:][point:])
+
+    def test_nearest(self):
+        """Ties, what is beside them, and drawn ones; the host agrees, which rounds twice. That is as good as once here:
+        a decimal of nine digits that is no tie is at least 1 / (2^25 5^8) of itself off one, more than 2^-44, and a
+        binary64 is within 2^-53."""
+        chooser = random.Random(3)
+        drawn = [decimals.any_decimal(chooser).lstrip("-") for _ in range(3000)]
+        for text in {*decimals.edges(), *drawn}:
+            self.check_nearest(text)
+            host = struct.unpack("<I", bytes(ctypes.c_float(float(text))))[0]
+            self.assertEqual(self.bits(text), host, text)
+
+    def test_distance_to_ties(self):
+        """What test_nearest says, for those that decimals.py has as the nearest."""
+        offs = [
+            abs(decimals.off_tie(Fraction(m, 10**places))[0])
+            for places, numerators in decimals.BESIDE_TIES
+            for m in (numerators[0], numerators[-1])
+        ]
+        self.assertTrue(Fraction(1, 1 << 44) < min(offs) < Fraction(1, 1 << 43))
+
+    def refused(self, text, number, place):
+        answer, table = assembled(text)
+        self.assertEqual(answer, (number, 0, place, 1, place + 1), text)
+        self.assertFalse(any(table))
+
+    def test_ill_formed(self):
+        """ "an ill-formed decimal is 33", so is whatever else is no pattern and no decimal."""
+        for word in """
+            5 -5 0 5. .5 . - -. -.5 -5. .. 1..5 1.2.3 .1.2 1.2. --1.0 -1.-0 1-.5 1.-5 1.5- 1234567890 1234567890.
+            .1234567890 1234567890.1.2 2.5: 12345678.90: .: # #2.5 #4020000. -#40200000 2.5# 1e5 1.0e5 a.b 1.5a a1.5
+            _1.5 2.5f PUSHIMMF ITOF
+        """.split():
+            self.refused(f"PUSHIMMF {word}", 33, 9)
+            self.refused(f"STOP PUSHIMMF {word} FOO", 33, 14)
+
+    def test_too_long(self):
+        """ "ten or more digits 25": zeros are digits too, and the minus is none."""
+        for word in """
+            12345678.90 1.234567890 123456789.0 -123456789.0 0.000000000 -0.000000000 000000002.5 2.500000000
+            123456789012345678901234567890.5 0.123456789012345678901234567890
+        """.split():
+            self.refused(f"PUSHIMMF {word}", 25, 9)
+        for word in ["-12345678.9", "-1.23456789", "-00000002.5", "-2.50000000", "-0.00000000"]:
+            self.bits(word)
+
+    def test_point_elsewhere(self):
+        """ "the point becomes an allowed byte", of no word, number or pattern."""
+        for text, number, place in [
+            ("ADD.", 23, 0),
+            (".ADD", 23, 0),
+            (".", 23, 0),
+            ("STOP .", 23, 5),
+            ("2.5", 23, 0),
+            ("2.5:", 23, 0),
+            ("a.b:", 23, 0),
+            ("a.:", 23, 0),
+            (".:", 23, 0),
+            ("x" * 33 + ".:", 23, 0),  # no label, so not too long for one
+            ("FOO.@", 22, 4),
+            (".@", 22, 1),
+            ("JUMP a.b", 33, 5),
+            ("JUMP a.b:", 33, 5),
+            ("JUMP 1.0", 33, 5),
+            ("JUMP 0.", 33, 5),
+            ("JUMP " + "x" * 33 + ".", 33, 5),
+            ("PUSHIMM 1.5", 33, 8),
+            ("PUSHIMM 1.0", 33, 8),
+            ("PUSHIMM 12345678901.0", 33, 8),
+            ("PUSHIMM .", 33, 8),
+            ("ADDSP 1.0", 33, 6),
+            ("PUSHOFF -1.0", 33, 8),
+            ("PUSHIMMF 2,5", 22, 10),
+            ("PUSHIMMF +2.5", 22, 9),
+            ("PUSHIMMF 2./5", 22, 11),
+            ("PUSHIMMF .@5", 22, 10),
+            ("PUSHIMMF 2 .5", 33, 9),
+            ("PUSHIMMF - 2.5", 33, 9),
+            ("PUSHIMMF", 24, 8),
+            ("PUSHIMMF //2.5", 24, 14),
+            ("PUSHIMMF 2.5 2.5", 23, 13),
+            ("STOP " * 1024 + "PUSHIMMF .", 28, 5120),
+            ("JUMP gone PUSHIMMF .5", 33, 19),
+            ("JUMP 9 PUSHIMMF 12345678.90", 25, 16),
+        ]:
+            self.refused(text, number, place)
+
+    def test_tokens(self):
+        for text in ["PUSHIMMF 2.5//.5", "PUSHIMMF\n\t2.5\r\n", "PUSHIMMF // 7.5 .\n2.5", "// 1.5 ADD.\nPUSHIMMF 2.5"]:
+            answer, table = assembled(text)
+            self.assertEqual((answer, table[0]), ((0, 1, 0, 0, 0), 2 << 32 | 0x40200000), text)
+
+    def test_lines(self):
+        answer, _ = assembled("PUSHIMMF 2.5\r\n\tPUSHIMMF 2.\r\n")
+        self.assertEqual(answer, (33, 0, 24, 2, 11))
+        answer, _ = assembled("PUSHIMMF 2.5\nPUSHIMMF\n  12345678.90")
+        self.assertEqual(answer, (25, 0, 24, 3, 3))
+
+    def test_listing(self):
+        """ "Listings still write bits." """
+        made = program("PUSHIMMF 2.5 PUSHIMMF -0.0 PUSHIMMF 0.1 ITOF FTOI")
+        text = bytearray(b"?" * 20480)
+        number, length = sam.list_program(made.table, made.length, text)
+        self.assertEqual(number, 0)
+        self.assertEqual(text[:length], b"PUSHIMMF #40200000\nPUSHIMMF #80000000\nPUSHIMMF #3DCCCCCD\nITOF\nFTOI\n")
+        self.assertEqual(assembled(bytes(text[:length])), ((0, 5, 0, 0, 0), made.table))
+
+    def test_full(self):
+        answer, table = assembled("PUSHIMMF -99999999.9\n" * 1024)
+        self.assertEqual((answer, set(table)), ((0, 1024, 0, 0, 0), {2 << 32 | 0xCCBEBC20}))
+
+
+class Conversions(unittest.TestCase):
+    """Request e: ITOF and FTOI."""
+
+    LEAST, GREATEST = -2147483648, 2147483647
+
+    # INTs and the bits that ITOF makes of them.
+    FLOATS = [
+        (0, 0x00000000),
+        (1, 0x3F800000),
+        (-1, 0xBF800000),
+        (2, 0x40000000),
+        (40, 0x42200000),
+        (-40, 0xC2200000),
+        (16777215, 0x4B7FFFFF),
+        (16777216, 0x4B800000),
+        (16777217, 0x4B800000),  # a tie; 16777216 is even
+        (16777218, 0x4B800001),
+        (16777219, 0x4B800002),  # a tie; 16777220 is even
+        (-16777217, 0xCB800000),
+        (-16777219, 0xCB800002),
+        (33554431, 0x4C000000),  # a tie, up to 2^25
+        (33554433, 0x4C000000),
+        (33554434, 0x4C000000),  # a tie
+        (33554435, 0x4C000001),
+        (33554438, 0x4C000002),  # a tie
+        (1073741824, 0x4E800000),
+        (1073741888, 0x4E800000),  # 2^30 and 64, a tie
+        (1073741889, 0x4E800001),
+        (1073742015, 0x4E800001),
+        (1073742016, 0x4E800002),  # 2^30 and 192, a tie
+        (2147483520, 0x4EFFFFFF),  # 2^31 less 128
+        (2147483583, 0x4EFFFFFF),
+        (2147483584, 0x4F000000),  # 2^31 less 64, a tie
+        (2147483647, 0x4F000000),
+        (-2147483583, 0xCEFFFFFF),
+        (-2147483584, 0xCF000000),
+        (-2147483647, 0xCF000000),
+        (-2147483648, 0xCF000000),
+    ]
+
+    # Bits and the INTs that FTOI makes of them.
+    INTEGERS = [
+        (0x00000000, 0),
+        (0x80000000, 0),  # minus zero
+        (0x00000001, 0),  # the least there is
+        (0x80000001, 0),
+        (0x3EFFFFFF, 0),
+        (0x3F000000, 0),  # 0.5
+        (0xBF000000, 0),
+        (0x3F7FFFFF, 0),  # the last below 1
+        (0xBF7FFFFF, 0),
+        (0x3F800000, 1),
+        (0xBF800000, -1),
+        (0x3FC00000, 1),  # 1.5
+        (0xBFC00000, -1),
+        (0x3FFFFFFF, 1),  # the last below 2
+        (0xBFFFFFFF, -1),
+        (0x40200000, 2),  # 2.5
+        (0xC0200000, -2),
+        (0x40300000, 2),  # 2.75
+        (0xC0300000, -2),
+        (0x42200000, 40),
+        (0x4AFFFFFF, 8388607),  # and a half
+        (0xCAFFFFFF, -8388607),
+        (0x4B7FFFFF, 16777215),
+        (0x4B800001, 16777218),
+        (0x4EFFFFFF, 2147483520),  # the last within INT
+        (0xCEFFFFFF, -2147483520),
+        (0xCF000000, -2147483648),
+    ]
+
+    OUTSIDE = [
+        0x4F000000,  # 2147483648
+        0x4F000001,
+        0x4F800000,
+        0xCF000001,  # -2147483904, the first below
+        0xCF800000,
+        0x7F7FFFFF,
+        0xFF7FFFFF,
+        0x7F800000,  # infinities
+        0xFF800000,
+    ]
+    NANS = [0x7F800001, 0x7FBFFFFF, 0x7FC00000, 0x7FFFFFFF, 0xFF800001, 0xFFBFFFFF, 0xFFC00000, 0xFFFFFFFF]
+
+    def converted(self, name, tag, bits, h=0):
+        """The number and the state; a refused one changes nothing."""
+        state = stacked((INT, 7), (tag, bits % WORD), h=h)
+        before = contents(state)
+        number = sam.step(program(name), state)
+        if number:
+            self.assertEqual(contents(state), before, (name, hex(bits)))
+        return number, state
+
+    def test_codes(self):
+        self.assertEqual(program("ITOF FTOI").table[:3], [50 << 32, 51 << 32, 0])
+
+    def test_to_float(self):
+        for number, bits in self.FLOATS:
+            answer, state = self.converted("ITOF", INT, number)
+            self.assertEqual((answer, live(state)), (0, [(INT, 7), (FLOAT, bits)]), number)
+
+    def test_to_integer(self):
+        for bits, number in self.INTEGERS:
+            answer, state = self.converted("FTOI", FLOAT, bits)
+            self.assertEqual((answer, live(state)), (0, [(INT, 7), (INT, number % WORD)]), hex(bits))
+
+    def test_to_float_nearest(self):
+        """Beside the host: an INT is exact in binary64, which is rounded once to binary32. The same for a decimal of
+        that number, where it has one."""
+        chooser = random.Random(4)
+        drawn = [chooser.randrange(-(1 << width), 1 << width) for width in range(1, 32) for _ in range(200)]
+        beside = [number + by for number, _ in self.FLOATS for by in range(-2, 3)]
+        for number in drawn + [number for number in beside if self.LEAST <= number <= self.GREATEST]:
+            _, state = self.converted("ITOF", INT, number)
+            bits = state.bits[1]
+            host = struct.unpack("<I", bytes(ctypes.c_float(float(number))))[0]
+            self.assertEqual(bits, host, number)
+            if number and abs(number) < 10**8:
+                self.assertEqual(program(f"PUSHIMMF {number}.0").table[0] % WORD, bits, number)
+
+    def test_to_integer_cuts(self):
+        """Beside the host's int(), which cuts toward zero."""
+        chooser = random.Random(5)
+        for _ in range(5000):
+            bits = chooser.randrange(2) << 31 | chooser.randrange(110, 162) << 23 | chooser.randrange(1 << 23)
+            whole = int(struct.unpack("<f", struct.pack("<I", bits))[0])
+            answer, state = self.converted("FTOI", FLOAT, bits)
+            if self.LEAST <= whole <= self.GREATEST:
+                self.assertEqual((answer, state.cell(1)), (0, (INT, whole % WORD)), hex(bits))
+            else:
+                self.assertEqual(answer, 5, hex(bits))
+
+    def test_there_and_back(self):
+        """A whole number up to 2^24 comes back; so does every FLOAT that is whole and within INT."""
+        for number in [0, 1, -1, 40, 16777216, -16777216, 1073741824, -2147483648]:
+            numbers, state = stepped(f"PUSHIMM {number} ITOF FTOI STOP")
+            self.assertEqual((set(numbers), live(state)), ({0}, [(INT, number % WORD)]))
+        self.assertEqual(live(stepped("PUSHIMM 16777217 ITOF FTOI STOP")[1]), [(INT, 16777216)])
+        self.assertEqual(stepped("PUSHIMM 2147483647 ITOF FTOI STOP")[0], [0, 0, 5])
+        self.assertEqual(live(stepped("PUSHIMMF -0.0 FTOI ITOF STOP")[1]), [(FLOAT, 0)])  # plus zero
+
+    def test_refused(self):
+        """ "5 also for FTOI of a NaN or a result outside INT", with room for the record and without."""
+        for bits, h in product(self.OUTSIDE + self.NANS, (0, 1, 2)):
+            self.assertEqual(self.converted("FTOI", FLOAT, bits, h)[0], 5, (hex(bits), h))
+
+    def test_tags(self):
+        """4, and 4 before 5."""
+        patterns = self.OUTSIDE + self.NANS + [bits for bits, _ in self.INTEGERS]
+        for bits in patterns:
+            for name, tag in [("ITOF", FLOAT), ("ITOF", MA), ("FTOI", INT), ("FTOI", MA)]:
+                self.assertEqual(self.converted(name, tag, bits)[0], 4, (name, tag, hex(bits)))
+        for name, bits in product(("ITOF", "FTOI"), (0, 1)):
+            self.assertEqual(self.converted(name, PA, bits)[0], 4, name)
+
+    def test_too_few(self):
+        """3 before 4 and 5: with SP 0 the cell above is no value."""
+        for name, cell in [("ITOF", (INT, 1)), ("FTOI", (FLOAT, 0x7FC00000)), ("ITOF", (MA, 0)), ("FTOI", (INT, 0))]:
+            state = stacked(cell)
+            state.registers.sp = 0
+            self.assertEqual(sam.step(program(name), state), 3, name)
+
+    def test_least_cells(self):
+        """N = 2 holds one value, and SP does not rise: never 7."""
+        self.assertEqual(stepped("PUSHIMM 3 ITOF FTOI STOP", n=2)[0], [0, 0, 0, 0])
+
+    def test_history(self):
+        """One cell written: two places, else 8, also where the cell keeps its bits."""
+        for name, cell in [("ITOF", (INT, 0)), ("ITOF", (INT, 9)), ("FTOI", (FLOAT, 0)), ("FTOI", (FLOAT, 0x40200000))]:
+            self.assertEqual(self.converted(name, *cell, h=1)[0], 8, name)
+            self.assertEqual(self.converted(name, *cell, h=2)[0], 0, name)
+
+    def test_step_back(self):
+        """Cell 0 held INT 16777217 (#01000001), then FLOAT #4B800000."""
+        made, state = started("PUSHIMM 16777217 ITOF FTOI STOP", h=9)
+        self.assertEqual([sam.step(made, state) for _ in range(3)], [0, 0, 0])
+        self.assertEqual(live(state), [(INT, 16777216)])
+        mark = lambda pc: 1 << 63 | pc << 52 | 1 << 42 | 1 << 22
+        self.assertEqual(state.history[2:7], [0x01000001 << 19, mark(1), FLOAT << 51 | 0x4B800000 << 19, mark(2), 0])
+        self.assertEqual(sam.step_back(made, state), 0)
+        self.assertEqual((live(state), state.registers.pc), ([(FLOAT, 0x4B800000)], 2))
+        self.assertEqual(sam.step_back(made, state), 0)
+        self.assertEqual((live(state), state.registers.pc), ([(INT, 16777217)], 1))
+        self.assertEqual(state.history[2:], [0] * 7)
+        self.assertEqual(sam.run(made, state, 9), (0, 3))
+
+    def test_run(self):
+        """A refused FTOI ends a run; the steps before stand, and the step-back takes back the last of them."""
+        made, state = started("PUSHIMMF 2.5 PUSHIMMF #4F000000 FTOI STOP", h=9)
+        self.assertEqual(sam.run(made, state, 9), (5, 2))
+        self.assertEqual(live(state), [(FLOAT, 0x40200000), (FLOAT, 0x4F000000)])
+        before = contents(state)
+        self.assertEqual((sam.step(made, state), sam.run(made, state, 9)), (5, (5, 0)))
+        self.assertEqual(contents(state), before)
+        self.assertEqual(sam.step_back(made, state), 0)
+        self.assertEqual((live(state), state.registers.pc), ([(FLOAT, 0x40200000)], 1))
+
+    def test_image(self):
+        """Codes without an operand: count 2 in 11 bits, 110010 and 110011, one zero."""
+        made = program("ITOF FTOI")
+        image = bytearray(4866)
+        self.assertEqual(sam.pack(made.table, made.length, image), (0, 3))
+        self.assertEqual(image[:3], int("00000000010" + "110010" + "110011" + "0", 2).to_bytes(3, "big"))
+        table = [7] * PLACES
+        self.assertEqual(sam.unpack(bytes(image[:3]), table), (0, 2))
+        self.assertEqual(table, made.table)
+
+    def test_console(self):
+        self.assertEqual(
+            sam.console(b"PUSHIMMF 2.5 PUSHIMMF -2.5 FTOI PUSHIMM 16777217 ITOF PUSHIMMF -0.0 STOP"),
+            "end 0 steps 7\nPC 6 SP 4 FBR 0\n0 FLOAT #40200000\n1 INT -2\n2 FLOAT #4B800000\n3 FLOAT #80000000\n",
+        )
+        self.assertEqual(
+            sam.console(b"PUSHIMMF #7FC00000 FTOI"),
+            "end 5 steps 1\nPC 1 SP 1 FBR 0\n0 FLOAT #7FC00000\n",
+        )
+        self.assertEqual(sam.console(b"STOP\nPUSHIMMF 2."), "refused 33 14 2 10\n")
+        self.assertEqual(sam.console(b"STOP\nPUSHIMMF 12345678.90"), "refused 25 14 2 10\n")
+        self.assertEqual(sam.console(b"STOP\nADD."), "refused 23 5 2 1\n")
 
 
 class Soundness(unittest.TestCase):

@@ -1,5 +1,5 @@
-/* Tests of the C library through sam.h: the complaint of document 01, those of requests b and d, and samples of every
- * refusal. One line for each check. */
+/* Tests of the C library through sam.h: the complaint of document 01, those of requests b and d, request e, and
+ * samples of every refusal. One line for each check. */
 #include <stdbool.h>
 #include <stdio.h>
 #include <string.h>
@@ -350,6 +350,205 @@ static void test_sums(void) {
     }
 }
 
+/* ---- request e: decimals, ITOF and FTOI */
+
+/* A decimal and the bits that it becomes. */
+static const struct { const char *decimal; uint32_t made; } decimals[] = {
+    {"2.5", 0x40200000},
+    {"-2.5", 0xC0200000},
+    {"000002.50", 0x40200000},
+    {"0.0", 0x00000000},
+    {"-0.0", 0x80000000},
+    {"-0.00000000", 0x80000000},
+    {"1.0", 0x3F800000},
+    {"10.0", 0x41200000},
+    {"40.0", 0x42200000},
+    {"1000000.0", 0x49742400},
+    {"0.1", 0x3DCCCCCD},
+    {"0.01", 0x3C23D70A},
+    {"0.00000001", 0x322BCC77},
+    {"0.00390625", 0x3B800000}, /* 2^-8 */
+    {"3.14159265", 0x40490FDB},
+    {"0.33333333", 0x3EAAAAAB},
+    {"0.99999997", 0x3F7FFFFF},
+    {"0.99999998", 0x3F800000},
+    {"4194304.24", 0x4A800000}, /* from 2^22 half a unit from one to the next */
+    {"4194304.25", 0x4A800000},
+    {"4194304.26", 0x4A800001},
+    {"4194304.74", 0x4A800001},
+    {"4194304.75", 0x4A800002},
+    {"8388607.75", 0x4B000000},
+    {"8388608.5", 0x4B000000}, /* from 2^23 a whole one */
+    {"8388608.51", 0x4B000001},
+    {"8388609.49", 0x4B000001},
+    {"8388609.5", 0x4B000002},
+    {"16777215.5", 0x4B800000},
+    {"16777216.9", 0x4B800000}, /* from 2^24 two */
+    {"16777217.0", 0x4B800000},
+    {"16777217.1", 0x4B800001},
+    {"16777218.9", 0x4B800001},
+    {"16777219.0", 0x4B800002},
+    {"-16777217.0", 0xCB800000},
+    {"-16777217.1", 0xCB800001},
+    {"33554431.0", 0x4C000000},
+    {"33554434.0", 0x4C000000}, /* from 2^25 four */
+    {"33554438.0", 0x4C000002},
+    {"67108868.0", 0x4C800000}, /* from 2^26 eight */
+    {"67108876.0", 0x4C800002},
+    {"99999999.9", 0x4CBEBC20}, /* 10^8 */
+    {"1.00325948", 0x3F806ACF}, /* above a tie by less than 2^-40 */
+    {"1.00064677", 0x3F801531}, /* as little below one */
+};
+
+static void test_decimals(void) {
+    char source[64];
+    puts("decimals, and the bits that they become");
+    for (size_t i = 0; i < sizeof decimals / sizeof decimals[0]; i++) {
+        sprintf(source, "PUSHIMMF %s", decimals[i].decimal);
+        check(source, 0, assemble(source));
+        check_told(1, 0, 0, 0);
+        check("  place 0", UINT64_C(2) << 32 | decimals[i].made, table[0]);
+        check("  reset", 0, reset(2, 0));
+        check("  step", 0, step());
+        check_cell("  cell 0", 0, SAM_FLOAT, decimals[i].made);
+    }
+}
+
+static uint32_t list(void) { return sam_list(table, SAM_TABLE_PLACES, length, text, SAM_TEXT_BYTES, told, 1); }
+
+static void test_decimals_listed(void) {
+    static uint64_t first[SAM_TABLE_PLACES];
+    const char *listing = "PUSHIMMF #40200000\nPUSHIMMF #80000000\nPUSHIMMF #4B800000\nITOF\nFTOI\n";
+    puts("listings write bits");
+    check("  assemble", 0, assemble("PUSHIMMF 2.5 PUSHIMMF -0.0 PUSHIMMF 16777217.0 ITOF FTOI"));
+    check("  code of ITOF", UINT64_C(50) << 32, table[3]);
+    check("  code of FTOI", UINT64_C(51) << 32, table[4]);
+    memcpy(first, table, sizeof first);
+    check("  list", 0, list());
+    check("  length", strlen(listing), told[0]);
+    check("  the text", 0, (uint64_t)(memcmp(text, listing, strlen(listing)) != 0));
+    check("  the rest zero", 0, text[strlen(listing)]);
+    check("  assemble again", 0, assemble_bytes((const char *)text, strlen(listing)));
+    check("  length", 5, length);
+    check("  the same table", 0, (uint64_t)(memcmp(first, table, sizeof first) != 0));
+}
+
+/* What ITOF or FTOI makes of the value that the source pushes. */
+static const struct { const char *source; uint8_t tag; uint32_t made; } conversions[] = {
+    {"PUSHIMM 0 ITOF", SAM_FLOAT, 0x00000000},
+    {"PUSHIMM 1 ITOF", SAM_FLOAT, 0x3F800000},
+    {"PUSHIMM -1 ITOF", SAM_FLOAT, 0xBF800000},
+    {"PUSHIMM 40 ITOF", SAM_FLOAT, 0x42200000},
+    {"PUSHIMM 16777216 ITOF", SAM_FLOAT, 0x4B800000},
+    {"PUSHIMM 16777217 ITOF", SAM_FLOAT, 0x4B800000}, /* ties */
+    {"PUSHIMM 16777219 ITOF", SAM_FLOAT, 0x4B800002},
+    {"PUSHIMM -16777219 ITOF", SAM_FLOAT, 0xCB800002},
+    {"PUSHIMM 33554431 ITOF", SAM_FLOAT, 0x4C000000},
+    {"PUSHIMM 1073741888 ITOF", SAM_FLOAT, 0x4E800000},
+    {"PUSHIMM 1073741889 ITOF", SAM_FLOAT, 0x4E800001},
+    {"PUSHIMM 2147483583 ITOF", SAM_FLOAT, 0x4EFFFFFF},
+    {"PUSHIMM 2147483584 ITOF", SAM_FLOAT, 0x4F000000}, /* a tie, up to 2^31 */
+    {"PUSHIMM 2147483647 ITOF", SAM_FLOAT, 0x4F000000},
+    {"PUSHIMM -2147483648 ITOF", SAM_FLOAT, 0xCF000000},
+    {"PUSHIMMF 0.0 FTOI", SAM_INT, 0},
+    {"PUSHIMMF -0.0 FTOI", SAM_INT, 0},
+    {"PUSHIMMF 0.5 FTOI", SAM_INT, 0},
+    {"PUSHIMMF -0.5 FTOI", SAM_INT, 0},
+    {"PUSHIMMF 0.9999999 FTOI", SAM_INT, 0},
+    {"PUSHIMMF -0.9999999 FTOI", SAM_INT, 0},
+    {"PUSHIMMF #00000001 FTOI", SAM_INT, 0},
+    {"PUSHIMMF 1.5 FTOI", SAM_INT, 1},
+    {"PUSHIMMF 2.5 FTOI", SAM_INT, 2},
+    {"PUSHIMMF 2.75 FTOI", SAM_INT, 2},
+    {"PUSHIMMF -1.5 FTOI", SAM_INT, 0xFFFFFFFF},
+    {"PUSHIMMF -2.75 FTOI", SAM_INT, 0xFFFFFFFE},
+    {"PUSHIMMF 8388607.5 FTOI", SAM_INT, 8388607},
+    {"PUSHIMMF #4B800001 FTOI", SAM_INT, 16777218},
+    {"PUSHIMMF #4EFFFFFF FTOI", SAM_INT, 2147483520}, /* the last within INT */
+    {"PUSHIMMF #CEFFFFFF FTOI", SAM_INT, 0x80000080},
+    {"PUSHIMMF #CF000000 FTOI", SAM_INT, 0x80000000},
+    {"PUSHIMM 16777217 ITOF FTOI", SAM_INT, 16777216},
+    {"PUSHIMM -2147483648 ITOF FTOI", SAM_INT, 0x80000000},
+};
+
+static void test_conversions(void) {
+    for (size_t i = 0; i < sizeof conversions / sizeof conversions[0]; i++) {
+        printf("%s\n", conversions[i].source);
+        begin(conversions[i].source, 2, 0);
+        check("  run to the end", 2, run(100));
+        check("  SP", 1, registers[SAM_SP]);
+        check_cell("  cell 0", 0, conversions[i].tag, conversions[i].made);
+    }
+}
+
+/* Refused at the last instruction, after these steps. */
+static const struct { const char *source; uint32_t number; uint64_t steps; } refused_conversions[] = {
+    {"PUSHIMMF #4F000000 FTOI", 5, 1}, /* 2147483648.0 */
+    {"PUSHIMMF #CF000001 FTOI", 5, 1}, /* the first below -2147483648.0 */
+    {"PUSHIMM 2147483647 ITOF FTOI", 5, 2},
+    {"PUSHIMMF #7F7FFFFF FTOI", 5, 1},
+    {"PUSHIMMF #7F800000 FTOI", 5, 1},
+    {"PUSHIMMF #FF800000 FTOI", 5, 1},
+    {"PUSHIMMF #7FC00000 FTOI", 5, 1},
+    {"PUSHIMMF #7F800001 FTOI", 5, 1},
+    {"PUSHIMMF #FFFFFFFF FTOI", 5, 1},
+    {"ITOF", 3, 0},
+    {"FTOI", 3, 0},
+    {"PUSHIMMF 2.5 ITOF", 4, 1},
+    {"PUSHSP ITOF", 4, 1},
+    {"PUSHIMMPA 0 ITOF", 4, 1},
+    {"PUSHIMM 1 FTOI", 4, 1},
+    {"PUSHIMM 2143289344 FTOI", 4, 1}, /* the bits #7FC00000: 4 before 5 */
+    {"PUSHSP FTOI", 4, 1},
+    {"PUSHIMMPA 0 FTOI", 4, 1},
+};
+
+static void test_refused_conversions(void) {
+    for (size_t i = 0; i < sizeof refused_conversions / sizeof refused_conversions[0]; i++) {
+        for (size_t places = 0; places <= 5; places += 5) {
+            printf("%s, H = %zu\n", refused_conversions[i].source, places);
+            begin(refused_conversions[i].source, 16, places);
+            check("  run", refused_conversions[i].number, run(100));
+            check("  steps", refused_conversions[i].steps, told[0]);
+            check("  PC", refused_conversions[i].steps, registers[SAM_PC]);
+            keep();
+            check("  step", refused_conversions[i].number, step());
+            check("  run", refused_conversions[i].number, run(100));
+            check("  steps of that run", 0, told[0]);
+            check_kept("  nothing changed");
+        }
+    }
+    puts("room for one place, where two are needed");
+    begin("PUSHIMM 1 ITOF", 16, 3);
+    check("  run", 8, run(100));
+    begin("PUSHIMMF 2.5 FTOI", 16, 3);
+    check("  run", 8, run(100));
+    begin("PUSHIMMF #7FC00000 FTOI", 16, 3);
+    check("  5 before 8", 5, run(100));
+}
+
+static void test_conversions_back(void) {
+    puts("16777217 to FLOAT and back to INT, then two step-backs");
+    begin("PUSHIMM 16777217 ITOF FTOI", 16, 6);
+    check("  run", 50, run(3));
+    check_cell("  after FTOI", 0, SAM_INT, 16777216);
+    check("  cell place of ITOF", UINT64_C(0x0000080000080000), history[2]);
+    check("  step place of ITOF", UINT64_C(0x8010040000400000), history[3]);
+    check("  cell place of FTOI", UINT64_C(0x000A5C0000000000), history[4]);
+    check("  step place of FTOI", UINT64_C(0x8020040000400000), history[5]);
+    check("  step-back", 0, step_back());
+    check_cell("  before FTOI", 0, SAM_FLOAT, 0x4B800000);
+    check("  step-back", 0, step_back());
+    check_cell("  before ITOF", 0, SAM_INT, 16777217);
+    check("  PC", 1, registers[SAM_PC]);
+    check("  SP", 1, registers[SAM_SP]);
+    check("  U", 2, registers[SAM_U]);
+    check("  freed place", 0, history[2]);
+    check("  freed place", 0, history[5]);
+    check("  run again", 50, run(2));
+    check_cell("  after FTOI", 0, SAM_INT, 16777216);
+}
+
 /* ---- told and registers of another length */
 
 static uint32_t run_with(size_t registers_len, size_t told_len) {
@@ -467,7 +666,9 @@ static void test_broken(void) {
     broken("  HALT", &registers[SAM_HALT], 2);
     broken("  U", &registers[SAM_U], 9);
     broken("  length", &length, 1025);
-    broken("  code", &table[0], UINT64_C(50) << 32);
+    broken("  code", &table[0], UINT64_C(52) << 32);
+    broken("  ITOF with an operand", &table[0], UINT64_C(50) << 32 | 1);
+    broken("  FTOI with an operand", &table[0], UINT64_C(51) << 32 | 1);
     broken("  unused place", &table[1023], 1);
     tags[3] = 4;
     check("  tag 4", 10, step());
@@ -567,6 +768,45 @@ static void test_refused_lines(void) {
     refused_as("  29", labels(257, "\r\n"), 29, 1792, 257, 1);
 }
 
+static const char *const ill_formed[] = {
+    "5", "5.", ".5", "-.5", "-5.", ".", "-", "-.", "..", "1.2.3", "1..2", "--1.0", "1.-5", "1234567890", "1234567890.",
+    ".1234567890", "2.5:", "12345678.90:", "#", "#2.5", "#4020000.", "2.5e3", "a.b",
+};
+
+static const char *const too_long[] = {
+    "12345678.90", "1.234567890", "123456789.0", "-123456789.0", "0.000000000", "000000002.5", "2.500000000",
+};
+
+/* The place of the operand is 14, in line 2 and column 10. */
+static void refused_operands(const char *const *operands, size_t count, uint32_t number) {
+    char source[64];
+    for (size_t i = 0; i < count; i++) {
+        sprintf(source, "STOP\nPUSHIMMF %s\nFOO", operands[i]);
+        refused(source, number, 14, 2, 10);
+    }
+}
+
+static void test_refused_decimals(void) {
+    puts("decimals of wrong form, and of ten and more digits");
+    refused_operands(ill_formed, sizeof ill_formed / sizeof ill_formed[0], 33);
+    refused_operands(too_long, sizeof too_long / sizeof too_long[0], 25);
+    puts("the point elsewhere");
+    refused("ADD.", 23, 0, 1, 1);
+    refused("STOP\n.", 23, 5, 2, 1);
+    refused("2.5", 23, 0, 1, 1);
+    refused("a.b:", 23, 0, 1, 1);
+    refused("STOP\r\n A.@", 22, 9, 2, 4);
+    refused("JUMP a.b", 33, 5, 1, 6);
+    refused("JUMP 0.0", 33, 5, 1, 6);
+    refused("PUSHIMM 1.5", 33, 8, 1, 9);
+    refused("ADDSP 1.0", 33, 6, 1, 7);
+    refused("PUSHIMMF 2,5", 22, 10, 1, 11);
+    refused("PUSHIMMF 2./5", 22, 11, 1, 12);
+    refused("PUSHIMMF // 2.5", 24, 15, 1, 16);
+    check("  in a comment", 0, assemble("PUSHIMMF 2.5//.5 . ADD.\n"));
+    check_told(1, 0, 0, 0);
+}
+
 /* ---- lists and images */
 
 static void test_list(void) {
@@ -602,6 +842,11 @@ static void test_images(void) {
     check("  zeroed", 0, table[0]);
     check("  length", 0, told[0]);
     check("  count 2,047", 42, unpack("\xFF\xE0", 2));
+    check("  code 50", 0, unpack("\x00\x39\x00", 3));
+    check("  ITOF", UINT64_C(50) << 32, table[0]);
+    check("  code 51", 0, unpack("\x00\x39\x80", 3));
+    check("  FTOI", UINT64_C(51) << 32, table[0]);
+    check("  code 52", 43, unpack("\x00\x3A\x00", 3));
     check("  code 63", 43, unpack("\x00\x3F\x80", 3));
     check("  ADDSP 1000", 44, unpack("\x00\x33\xBE\x80", 4));
     check("  padding", 45, unpack("\x00\x01", 2));
@@ -617,6 +862,11 @@ int main(void) {
     test_equal_back();
     test_wrapping_addresses();
     test_sums();
+    test_decimals();
+    test_decimals_listed();
+    test_conversions();
+    test_refused_conversions();
+    test_conversions_back();
     test_lengths();
     test_steps();
     test_reset();
@@ -624,6 +874,7 @@ int main(void) {
     test_without_line();
     test_refused_sources();
     test_refused_lines();
+    test_refused_decimals();
     test_list();
     test_images();
     printf("%u checks, %u failed\n", checks, failed);

@@ -1,5 +1,5 @@
-"""An interpreter of document 01 with requests a, b and d of document 02, written from the documents and their settled
-readings, to compare the proved one with."""
+"""An interpreter of document 01 with requests a, b, d and e of document 02, written from the documents and their
+settled readings, to compare the proved one with."""
 
 from .console import cell_line, console
 from .image import pack, unpack

@@ -1,4 +1,4 @@
-"""What each instruction does: document 01, "Instructions", and requests b and d of document 02.
+"""What each instruction does: document 01, "Instructions", and requests b, d and e of document 02.
 
 An action works on a Move: it takes values off, puts results on, and notes the cells it would write. Nothing of the
 machine changes until the whole step is accepted, so an action may refuse at any point.
@@ -151,6 +151,23 @@ def is_nil(move):
     """ "ISNIL of a FLOAT is 1 for both zeros. Other tags stay": "1 if all bits are zero"."""
     ((tag, top),) = move.pop(ANY)
     move.push(INT, floats.is_zero(top) if tag == FLOAT else top == 0)
+
+
+def integer_to_float(move):
+    """ "ITOF (code 50) rounds an INT the same way" as a decimal."""
+    ((_, top),) = move.pop((INT,))
+    move.push(FLOAT, floats.of_integer(signed(top)))
+
+
+def float_to_integer(move):
+    """ "FTOI (code 51) cuts toward zero." "5 also for FTOI of a NaN or a result outside INT" """
+    ((_, top),) = move.pop((FLOAT,))
+    if floats.is_nan(top) or floats.is_infinite(top):
+        raise Refusal(5)
+    whole = floats.cut(top)
+    if not -(2**31) <= whole <= 2**31 - 1:
+        raise Refusal(5)
+    move.push(INT, whole)
 
 
 # ---- the stack and the registers
@@ -331,6 +348,8 @@ ACTION_BY_NAME = {
     "JSR": call,
     "JSRIND": call_indirect,
     "PUSHIMMPA": push_program_address,
+    "ITOF": integer_to_float,
+    "FTOI": float_to_integer,
 }
 
 ACTIONS = [ACTION_BY_NAME[name] for name in NAMES]

@@ -41,7 +41,7 @@ def floor_log2(magnitude):
 
 
 def rounded(exact, sign):
-    """The nearest pattern to an exact value, ties to even; `sign` is the sign of a result that is or becomes zero."""
+    """The nearest pattern to an exact value, ties to even; `sign` is the sign bit of the result, zero too."""
     magnitude = abs(exact)
     if magnitude == 0:
         return sign
@@ -57,6 +57,18 @@ def rounded(exact, sign):
 
 def sign_of(exact):
     return SIGN if exact < 0 else 0
+
+
+def of_integer(number):
+    """ITOF: the nearest pattern to a whole number; 0 gives plus zero."""
+    return rounded(Fraction(number), sign_of(number))
+
+
+def cut(bits):
+    """FTOI: the whole number that a finite pattern is cut to "toward zero"."""
+    exact = value(bits)
+    whole = abs(exact.numerator) // exact.denominator
+    return -whole if exact < 0 else whole
 
 
 def add(below, top):

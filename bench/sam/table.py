@@ -1,6 +1,6 @@
-"""The fifty instructions and the table of a program: what a place holds, and which tables are sound.
+"""The fifty-two instructions and the table of a program: what a place holds, and which tables are sound.
 
-Written from document 01, "Instructions" and "Text, table, image".
+Written from document 01, "Instructions" and "Text, table, image", and request e of document 02.
 """
 
 PROGRAM_LIMIT = 1024  # "program 0 to 1,024 instructions"; a table has as many places
@@ -9,17 +9,17 @@ WORD = 1 << 32
 # Kinds of operand.
 NO_OPERAND = "none"
 INTEGER = "integer"  # PUSHIMM: -2^31..2^31-1
-PATTERN = "pattern"  # PUSHIMMF: # and eight hex digits
+PATTERN = "pattern"  # PUSHIMMF: # and eight hex digits, or a decimal
 OFFSET = "offset"  # ADDSP, PUSHOFF, STOREOFF: -999..999
 TARGET = "target"  # a label or 0..length
 
-# "Codes in order from 0"
+# "Codes in order from 0"; "ITOF (code 50)", "FTOI (code 51)"
 NAMES = """
     STOP PUSHIMM PUSHIMMF DUP SWAP ADD SUB TIMES DIV MOD ADDF SUBF TIMESF DIVF
     AND OR NAND NOR XOR NOT BITAND BITOR BITNAND BITNOR BITXOR BITNOT
     CMP CMPF GREATER LESS EQUAL ISNIL ISPOS ISNEG
     PUSHSP POPSP PUSHFBR POPFBR LINK ADDSP PUSHIND STOREIND PUSHOFF STOREOFF
-    JUMP JUMPC JUMPIND JSR JSRIND PUSHIMMPA
+    JUMP JUMPC JUMPIND JSR JSRIND PUSHIMMPA ITOF FTOI
 """.split()
 
 CODES = {name: code for code, name in enumerate(NAMES)}

@@ -1,21 +1,25 @@
-"""The assembler and the lister: document 01, "Text, table, image", and request a of document 02."""
+"""The assembler and the lister: document 01, "Text, table, image", and requests a and e of document 02."""
 
 import re
 from dataclasses import dataclass
+from fractions import Fraction
 
+from . import floats
 from .table import (CODES, INTEGER, KINDS, NAMES, NO_OPERAND, OFFSET, PATTERN, PROGRAM_LIMIT, TARGET, WORD, make_place,
                     signed, table_sound)
 
 SOURCE_LIMIT = 65536  # "Source 0 to 65,536 bytes"
 LABEL_COUNT_LIMIT = 256
 LABEL_SIZE_LIMIT = 32
+DECIMAL_DIGIT_LIMIT = 9  # "two to nine digits in all"; "ten or more digits 25"
 TEXT_SIZE = 20480  # "Listing: 20,480 bytes"
 
 SEPARATORS = b" \t\r\n"
-ALLOWED = frozenset(b"abcdefghijklmnopqrstuvwxyzABCDEFGHIJKLMNOPQRSTUVWXYZ0123456789_-#:")
+ALLOWED = frozenset(b"abcdefghijklmnopqrstuvwxyzABCDEFGHIJKLMNOPQRSTUVWXYZ0123456789_-#:.")
 WORD_FORM = re.compile(rb"[A-Za-z][A-Za-z0-9_]*\Z")  # "a letter, then letters, digits or `_`"
 NUMBER_FORM = re.compile(rb"-?[0-9]+\Z")  # "optional `-`, digits"
 PATTERN_FORM = re.compile(rb"#[0-9A-Fa-f]{8}\Z")  # "`#` and eight hex digits of either case"
+DECIMAL_FORM = re.compile(rb"(-?)([0-9]+)\.([0-9]+)\Z")  # "a point with digits on both sides, and an optional minus"
 
 
 class Fault(Exception):
@@ -103,9 +107,22 @@ def small_number(token, low, high):
 
 
 def pattern(token):
-    if not PATTERN_FORM.match(token.body):
+    """The bits of PUSHIMMF's operand: "an ill-formed decimal is 33", and whatever else is no pattern."""
+    if PATTERN_FORM.match(token.body):
+        return int(token.body[1:], 16)
+    parts = DECIMAL_FORM.match(token.body)
+    if not parts:
         token.refuse(33)
-    return int(token.body[1:], 16)
+    minus, whole, fraction = parts.groups()
+    if len(whole + fraction) > DECIMAL_DIGIT_LIMIT:
+        token.refuse(25)
+    return decimal_bits(minus, whole, fraction)
+
+
+def decimal_bits(minus, whole, fraction):
+    """ "the binary32 nearest the exact decimal, ties to even. Minus zero keeps its sign." """
+    exact = Fraction(int(whole + fraction), 10 ** len(fraction))
+    return floats.rounded(exact, floats.SIGN if minus else 0)
 
 
 def target(token):
