@@ -1,14 +1,14 @@
 /* The SaM machine for C: every call of the proved library, with numbers and lent memory only.
  *
- * Link target/staticlib/libsam_c.a. Every call gives a number of document 01, with what requests a (24, 33) and d (6)
- * add:
+ * Link target/staticlib/libsam_c.a. Every call gives a number of document 01, with what requests a (24, 33), d (6) and
+ * e (5, 25, 33, 43) add:
  *
  *    0  done, or a run found HALT 1
  *    1  step with HALT 1
  *    2  PC equals program length
  *    3  fewer values than needed, or ADDSP below 0
  *    4  a value has a tag the instruction does not take
- *    5  DIV or MOD by zero, or CMPF with a NaN
+ *    5  DIV or MOD by zero, CMPF with a NaN, or FTOI of a NaN or with a result outside INT
  *    6  address outside the instruction's range, or ADD or SUB of an MA that leaves 32 bits
  *    7  new SP would be N or more
  *    8  H above 0 and fewer than (cells written + 1) places free
@@ -23,7 +23,7 @@
  *   31  lent output not of its exact length   33  operand of wrong form
  *   41  image ends early                      44  operand out of range
  *   42  count above 1,024                     45  padding not zero or bytes left over
- *   43  code above 49
+ *   43  code above 51
  *   50  run limit reached
  *
  * A count of elements stands after each pointer. A pointer is never null and is aligned for its type, also where the
