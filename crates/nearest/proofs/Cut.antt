@@ -1,24 +1,25 @@
 -- FTOI: what is left of a FLOAT's exact value, cut toward zero, and which values leave an INT. Assumes nothing.
 use mathlib.Core.Path.{_≡_, refl, sym, ap, _∙_}
 use mathlib.Core.Logic.{_⊎_, inl, inr}
-use mathlib.Core.Bool.{Bool, true, false, _&&_}
+use mathlib.Core.Bool.{Bool, true, false}
 use Prim.Native.Nat.{ℕ, zero, suc, _+_, _-_, _*_, _/_, _%_, _^_, _≤_, _<_}
-use native.Mathlib.Nat.{le-trans, le-of-eq, le-of-lt, lt-of-lt-of-le, mul-one, mul-assoc, div-one, eq-or-lt-of-le, le-div-iff-mul-le, div-lt-iff-lt-mul, mul-le-mul-left}
+use native.Mathlib.Nat.{le-trans, lt-of-lt-of-le, mul-one, div-one, le-div-iff-mul-le, div-lt-iff-lt-mul, mul-le-mul-left}
 use native.Mathlib.Omega.{arith}
 use lib.Dec.{lit<, lit≤, ltb, eqb}
 use lib.IntN.{pos}
 use lib.Signed.{quotZ}
 use lib.Arith.{lt-one}
-use lib.Pow.{pow-add, pow-pos, pow-mono}
+use lib.Pow.{pow-pos, pow-mono}
 use lib.Ieee.Nearest.{div-same}
 use borrow.Author.Tests.{lt-ltb, le-leb, lt-leb, ltb-true, eqb-true, eqb-false}
 use Rattle.rules.specs.Words.{word, inWord}
-use Rattle.rules.specs.Exact.{negative, exponent, fraction, noValue, scale, scaled, magnitude, withSign, exact}
+use Rattle.rules.specs.Exact.{negative, exponent, fraction, noValue, scale, scaled, magnitude, withSign}
 use Rattle.rules.specs.Floats.{cut, hasInt}
 use Rattle.rules.proofs.Tests.{by-test}
 use Rattle.nearest.specs.Nearest.{Finite}
 use Rattle.nearest.proofs.Order.{either-way}
-use Rattle.nearest.proofs.Parts.{scaled-top, magnitude-rises}
+use Rattle.nearest.proofs.Powers.{raised-twice}
+use Rattle.nearest.proofs.Parts.{scaled-top, magnitude-rises, magnitude-keeps}
 
 -- ---- the whole part of the magnitude, by the exponent
 
@@ -38,28 +39,23 @@ module _ (t : ℕ) where
       lt-of-lt-of-le (scaled-top (exponent t) (fraction t) (omega arith))
       (le-trans (mul-le-mul-left (2 ^ 23) (pow-mono {i = exponent t} {j = 126} (omega arith))) (lit≤ tt))
 
-  -- (x * y) * z, where y * z is the power w
-  regroup : (x i j w : ℕ) → i + j ≡ w → x * 2 ^ i * 2 ^ j ≡ x * 2 ^ w
-  regroup x i j w e = mul-assoc x (2 ^ i) (2 ^ j) ∙ ap (λ (y : ℕ). x * y) (sym (pow-add 2 i j) ∙ ap (λ (k : ℕ). 2 ^ k) e)
-
   pub whole-part : 1 ≤ exponent t → exponent t ≤ 150 → magnitude t / scale ≡ (2 ^ 23 + fraction t) / 2 ^ (150 - exponent t)
   unfolding digits
   whole-part h l =
       let e : exponent t ≡ suc (exponent t - 1) = omega arith in
       div-same (magnitude t) scale digits (2 ^ (150 - exponent t)) (pow-pos 149) (pow-pos (150 - exponent t))
-      (ap (λ (x : ℕ). x * 2 ^ (150 - exponent t)) (leading t (exponent t - 1) e) ∙ regroup digits (exponent t - 1) (150 - exponent t) 149 (omega arith))
+      (ap (λ (x : ℕ). x * 2 ^ (150 - exponent t)) (leading t (exponent t - 1) e) ∙ raised-twice digits (exponent t - 1) (150 - exponent t) 149 (omega arith))
 
   -- below 1 nothing is whole
   pub whole-none : exponent t < 127 → magnitude t / scale ≡ 0
-  whole-none h =
-      lt-one (div-lt-iff-lt-mul (pow-pos 149) .1 (below-one h))
+  whole-none h = lt-one (div-lt-iff-lt-mul (pow-pos 149) .1 (below-one h))
 
   pub whole-all : 150 ≤ exponent t → magnitude t / scale ≡ (2 ^ 23 + fraction t) * 2 ^ (exponent t - 150)
   unfolding digits
   whole-all h =
       let e : exponent t ≡ suc (exponent t - 1) = omega arith in
       div-same (magnitude t) scale (digits * 2 ^ (exponent t - 150)) 1 (pow-pos 149) (lit< tt)
-      (mul-one (magnitude t) ∙ leading t (exponent t - 1) e ∙ sym (regroup digits (exponent t - 150) 149 (exponent t - 1) (omega arith)))
+      (mul-one (magnitude t) ∙ leading t (exponent t - 1) e ∙ sym (raised-twice digits (exponent t - 150) 149 (exponent t - 1) (omega arith)))
       ∙ div-one (digits * 2 ^ (exponent t - 150))
 
 -- up to the exponent of 2 ^ 31 it is a word
@@ -94,14 +90,6 @@ module _ (t : ℕ) where
   unfolding hasInt q
   has-int h k = rw (lt-ltb (exponent t) noValue h, cut-whole t, k)
 
-  no-int : inWord (withSign (negative t) q) ≡ false → hasInt t ≡ false
-  unfolding hasInt q
-  no-int k = rw (cut-whole t) (go (ltb (exponent t) noValue))
-    where
-      go : (b : Bool) → (b && inWord (withSign (negative t) q)) ≡ false
-      go true = k
-      go false = refl
-
 small-in : (s : Bool) (q : ℕ) → q < 2 ^ 31 → inWord (withSign s q) ≡ true
 small-in false q h = le-leb q (2 ^ 31 - 1) (omega arith)
 small-in true zero h = refl
@@ -116,8 +104,8 @@ larger-out (suc q) h = rw (lt-leb q (2 ^ 31 - 1) (omega arith))
 
 -- ---- by the bits: those of 2 ^ 31 and of -2 ^ 31, and what lies below and above them
 
-abbrev highest : ℕ
-highest = 0x4f00_0000
+abbrev aboveHighest : ℕ
+aboveHighest = 0x4f00_0000
 
 abbrev lowest : ℕ
 lowest = 0xcf00_0000
@@ -125,9 +113,9 @@ lowest = 0xcf00_0000
 finite-bits : (t : ℕ) → t < 2 ^ 32 → exponent t < noValue → Finite t
 finite-bits t h l = record { cell = h; field = l }
 
-highest-magnitude : magnitude highest ≡ 2 ^ 31 * scale
+above-magnitude : magnitude aboveHighest ≡ 2 ^ 31 * scale
 unfolding magnitude
-highest-magnitude = refl
+above-magnitude = refl
 
 lowest-magnitude : magnitude lowest ≡ 2 ^ 31 * scale
 unfolding magnitude
@@ -145,7 +133,7 @@ module _ (t : ℕ) (T : t < 2 ^ 32) where
   minus h = le-leb (2 ^ 31) t h
 
   -- below the two the whole part is below 2 ^ 31
-  below-whole : t % 2 ^ 31 < highest → magnitude t / scale < 2 ^ 31
+  below-whole : t % 2 ^ 31 < aboveHighest → magnitude t / scale < 2 ^ 31
   below-whole h = div-lt-iff-lt-mul (pow-pos 149) .1 (go (either-way (2 ^ 31) t))
     where
       ft : Finite t
@@ -153,33 +141,26 @@ module _ (t : ℕ) (T : t < 2 ^ 32) where
 
       go : (2 ^ 31 ≤ t) ⊎ (t < 2 ^ 31) → magnitude t < 2 ^ 31 * scale
       go (inl l) = rw lowest-magnitude at (magnitude-rises t lowest ft (finite-bits lowest (lit< tt) (lit< tt)) (minus l) (omega arith))
-      go (inr l) = rw highest-magnitude at (magnitude-rises t highest ft (finite-bits highest (lit< tt) (lit< tt)) (plus l) (omega arith))
+      go (inr l) = rw above-magnitude at (magnitude-rises t aboveHighest ft (finite-bits aboveHighest (lit< tt) (lit< tt)) (plus l) (omega arith))
 
-  pub int-below : t % 2 ^ 31 < highest → hasInt t ≡ true
+  pub int-below : t % 2 ^ 31 < aboveHighest → hasInt t ≡ true
   unfolding q
   int-below h = has-int t (omega arith) (small-in (negative t) (magnitude t / scale) (below-whole h))
 
   -- from 2 ^ 31 on, and below -2 ^ 31, it is outside
-  rises : (x y : ℕ) → Finite x → Finite y → negative x ≡ negative y → x ≤ y → magnitude x ≤ magnitude y
-  rises x y fx fy s h = go (eq-or-lt-of-le h)
-    where
-      go : (x ≡ y) ⊎ (x < y) → magnitude x ≤ magnitude y
-      go (inl e) = le-of-eq (ap magnitude e)
-      go (inr l) = le-of-lt (magnitude-rises x y fx fy s l)
-
-  module _ (h : highest ≤ t % 2 ^ 31) (other : t ≡ lowest → ⊥) where
+  module _ (h : aboveHighest ≤ t % 2 ^ 31) (other : t ≡ lowest → ⊥) where
     outside : exponent t < noValue → (2 ^ 31 ≤ t) ⊎ (t < 2 ^ 31) → inWord (withSign (negative t) (magnitude t / scale)) ≡ false
     outside f (inl l) =
         let past : 2 ^ 31 + 2 ^ 8 ≤ magnitude t / scale =
         le-div-iff-mul-le (pow-pos 149) .1
-        (rw past-magnitude at (rises (suc lowest) t (finite-bits (suc lowest) (lit< tt) (lit< tt)) (finite-bits t T f) (sym (minus l)) (omega (arith, other)))) in
+        (rw past-magnitude at (magnitude-keeps (suc lowest) t (finite-bits (suc lowest) (lit< tt) (lit< tt)) (finite-bits t T f) (sym (minus l)) (omega (arith, other)))) in
         let above : 2 ^ 31 < 2 ^ 31 + 2 ^ 8 = lit< tt in
         rw (minus l) (larger-out (magnitude t / scale) (lt-of-lt-of-le above past))
     outside f (inr l) =
         rw (plus l)
         (large-out (magnitude t / scale)
         (le-div-iff-mul-le (pow-pos 149) .1
-        (rw highest-magnitude at (rises highest t (finite-bits highest (lit< tt) (lit< tt)) (finite-bits t T f) (sym (plus l)) (omega arith)))))
+        (rw above-magnitude at (magnitude-keeps aboveHighest t (finite-bits aboveHighest (lit< tt) (lit< tt)) (finite-bits t T f) (sym (plus l)) (omega arith)))))
 
     int-none : hasInt t ≡ false
     unfolding hasInt
@@ -192,16 +173,16 @@ int-lowest : hasInt lowest ≡ true
 unfolding hasInt cut magnitude
 int-lowest = refl
 
-pub int-by-lowest : (t : ℕ) → t < 2 ^ 32 → highest ≤ t % 2 ^ 31 → hasInt t ≡ eqb t lowest
+pub int-by-lowest : (t : ℕ) → t < 2 ^ 32 → aboveHighest ≤ t % 2 ^ 31 → hasInt t ≡ eqb t lowest
 int-by-lowest t T h =
     by-test (eqb t lowest)
     (λ e. ap hasInt (eqb-true t lowest e) ∙ int-lowest ∙ sym e)
     (λ e. int-none t T h (eqb-false t lowest e) ∙ sym e)
 
 pub int-exponent : (t : ℕ) → t < 2 ^ 32 → hasInt t ≡ true → exponent t < 159
-int-exponent t T h = go (either-way highest (t % 2 ^ 31))
+int-exponent t T h = go (either-way aboveHighest (t % 2 ^ 31))
   where
-    go : (highest ≤ t % 2 ^ 31) ⊎ (t % 2 ^ 31 < highest) → exponent t < 159
+    go : (aboveHighest ≤ t % 2 ^ 31) ⊎ (t % 2 ^ 31 < aboveHighest) → exponent t < 159
     go (inl l) = let e : t ≡ lowest = eqb-true t lowest (sym (int-by-lowest t T l) ∙ h) in omega arith
     go (inr l) = omega arith
 

@@ -1,4 +1,5 @@
 pub mod Order
+pub mod Powers
 pub mod Closest
 pub mod Grid
 pub mod Cell

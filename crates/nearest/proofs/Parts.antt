@@ -4,7 +4,7 @@ use mathlib.Core.Path.{_≡_, refl, sym, ap, _∙_, subst}
 use mathlib.Core.Logic.{_⊎_, inl, inr}
 use mathlib.Core.Bool.{Bool, true, false, true≢false}
 use Prim.Native.Nat.{ℕ, zero, suc, _+_, _*_, _/_, _%_, _^_, _≤_, _<_}
-use native.Mathlib.Nat.{le-trans, le-of-eq, lt-of-lt-of-le, lt-irrefl, le-of-suc-le-suc, mul-one, mul-le-mul-left, mul-le-mul-right, mul-lt-mul-of-pos-right, mod-lt, le-add-right, not-suc-le-zero}
+use native.Mathlib.Nat.{eq-or-lt-of-le, le-trans, le-of-eq, le-of-lt, lt-of-lt-of-le, lt-irrefl, le-of-suc-le-suc, mul-one, mul-le-mul-left, mul-le-mul-right, mul-lt-mul-of-pos-right, mod-lt, le-add-right, not-suc-le-zero}
 use native.Mathlib.Omega.{arith}
 use lib.Pow.{pow-add, pow-pos, pow-mono}
 use borrow.Author.Tests.{leb-true, leb-false, le-leb, lt-leb}
@@ -99,6 +99,13 @@ magnitude-rises x y fx fy s h = go (fields-order x y fx fy s h)
     go (inr l) =
         subst (λ (e : ℕ). scaled (exponent x) (fraction x) < scaled e (fraction y)) (l .0)
         (scaled-fraction (exponent x) (fraction x) (fraction y) (l .1))
+
+pub magnitude-keeps : (x y : ℕ) → Finite x → Finite y → negative x ≡ negative y → x ≤ y → magnitude x ≤ magnitude y
+magnitude-keeps x y fx fy s h = go (eq-or-lt-of-le h)
+  where
+    go : (x ≡ y) ⊎ (x < y) → magnitude x ≤ magnitude y
+    go (inl e) = le-of-eq (ap magnitude e)
+    go (inr l) = le-of-lt (magnitude-rises x y fx fy s l)
 
 -- so bits are known by their sign and their magnitude
 pub one-magnitude : (x y : ℕ) → Finite x → Finite y → negative x ≡ negative y → magnitude x ≡ magnitude y → x ≡ y

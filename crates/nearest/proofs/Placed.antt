@@ -18,6 +18,7 @@ use borrow.Author.Tests.{le-leb, lt-leb}
 use Rattle.rules.specs.Exact.{negative, exponent, fraction, scale, scaled, magnitude}
 use Rattle.rules.specs.Floats.{nearestF}
 use Rattle.nearest.specs.Nearest.{signBit, Finite, midpoint}
+use Rattle.nearest.proofs.Powers.{raised-twice}
 use Rattle.nearest.proofs.Closest.{closest-most}
 use Rattle.nearest.proofs.Parts.{one-magnitude}
 use Rattle.nearest.proofs.Nearest.{nearest-value, nearest-magnitude}
@@ -68,10 +69,7 @@ module _ (a c i j k : ℕ) (C : 0 < c) (balanced : 149 + j ≡ i + k) (lo : 2 ^ 
   -- times 2 ^ j it is the raised a, times 2 ^ k
   raised : n * 2 ^ j ≡ a * 2 ^ i * 2 ^ k
   unfolding n
-  raised =
-      mul-assoc a (2 ^ 149) (2 ^ j)
-      ∙ ap (λ (x : ℕ). a * x) (sym (pow-add 2 149 j) ∙ ap (λ (x : ℕ). 2 ^ x) balanced ∙ pow-add 2 i k)
-      ∙ sym (mul-assoc a (2 ^ i) (2 ^ k))
+  raised = raised-twice a 149 j (i + k) balanced ∙ sym (raised-twice a i k (i + k) refl)
 
   -- a power of two of c's, raised the same way
   power : (p : ℕ) → 2 ^ (p + k) * c * 2 ^ j ≡ 2 ^ p * (c * 2 ^ j) * 2 ^ k
@@ -165,16 +163,12 @@ module _ (k x : ℕ) (X : 0 < x) (small : x < 2 ^ suc k) where
       lt-of-lt-of-le (mul-lt-mul-of-pos-right (top .3) (pow-pos (leadingZeros (suc k) x)))
       (le-of-eq (sym (ap (λ (y : ℕ). 2 ^ y) d ∙ pow-add 2 (suc (top .0)) (leadingZeros (suc k) x))))
 
--- a raised by 2 ^ l, and then by 2 ^ t
-raise-more : (a l t : ℕ) → a * 2 ^ l * 2 ^ t ≡ a * 2 ^ (l + t)
-raise-more a l t = mul-assoc a (2 ^ l) (2 ^ t) ∙ ap (λ (x : ℕ). a * x) (sym (pow-add 2 l t))
-
 -- the two raised so that n / u lies between 1/2 and 2: then it has 24 digits by 2 ^ 24, or by 2 ^ 23
 module _ (a c i j n u : ℕ) (en : n ≡ a * 2 ^ i) (eu : u ≡ c * 2 ^ j) (n-lo : 2 ^ 31 ≤ n) (n-hi : n < 2 ^ 32) (u-lo : 2 ^ 31 ≤ u) (u-hi : u < 2 ^ 32)
     (few-i : i ≤ 31) (few-j : j ≤ 31) (C : 0 < c) (small : a < 2 ^ 32) (s : Bool) where
   by-steps : (t k : ℕ) → 149 + j ≡ i + t + k → 2 ^ 23 * u ≤ n * 2 ^ t → n * 2 ^ t < 2 ^ 24 * u → k < 253 → placed s k (closest (n * 2 ^ t) u) ≡ nearestF s a c
   by-steps t k balanced lo hi K =
-      let e : n * 2 ^ t ≡ a * 2 ^ (i + t) = ap (λ (x : ℕ). x * 2 ^ t) en ∙ raise-more a i t in
+      let e : n * 2 ^ t ≡ a * 2 ^ (i + t) = ap (λ (x : ℕ). x * 2 ^ t) en ∙ raised-twice a i t (i + t) refl in
       ap₂ (λ (x y : ℕ). placed s k (closest x y)) e eu
       ∙ placed-nearest a c (i + t) j k C balanced (rw (e, eu) at lo) (rw (e, eu) at hi) small K s
 

@@ -14,7 +14,7 @@ abbrev pub signBit : Bool → ℕ
 signBit true = 2 ^ 31
 signBit false = 0
 
--- b is the bits of a finite value: the infinities and the NaNs have none
+-- b is the bits of a finite value, neither of an infinity nor of a NaN
 pub record Finite (b : ℕ) : Type 0 where
   pub cell : b < 2 ^ 32
   pub field : exponent b < noValue

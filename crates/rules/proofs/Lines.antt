@@ -11,7 +11,7 @@ use lib.Seq.{take-suc}
 use borrow.Author.Tests.{leb-true, ltb-true, eq-eqb, ne-eqb}
 use Rattle.rules.specs.Lists.{text, all}
 use Rattle.rules.specs.Sizes.{maxProgram, listingSize, maxOffset}
-use Rattle.rules.specs.Bytes.{hash, space, minusSign, LF, blank, letter, wordByte, allowed}
+use Rattle.rules.specs.Bytes.{hash, minusSign, LF, blank, letter, wordByte, allowed}
 use Rattle.rules.specs.Instructions.{rows, rowOf, codes, names, nameOf, kindOf}
 use Rattle.rules.specs.Table.{Program, codeOf, operandOf, within, soundPlace, soundTable}
 use Rattle.rules.specs.Assemble.{allowedRun}

@@ -10,7 +10,7 @@ use lib.IntN.{ℤ, pos, negsuc, natAbs, _+ℤ_}
 use lib.ListN.{length, getD}
 use lib.Signed.{ltZ, quotZ, remZ}
 use lib.Bits.{bitAnd, bitOr, and-lt, or-lt, xor-lt}
-use lib.Ieee.{Float, Format, binary32, ofBits, round, add, sub, mul, div, fits, lt}
+use lib.Ieee.{Float, Format, binary32, ofBits, add, sub, mul, div, fits, lt}
 use lib.Ieee.Bits.{toBits-lt}
 use lib.Ieee.Fits.{round-fits, add-fits, sub-fits, mul-fits, div-fits}
 use Rattle.rules.specs.Tags.{INT, FLOAT, MA, PA, int, float, ma, pa, has}

@@ -1,6 +1,6 @@
 -- Document 02, letter e: decimals, ITOF and FTOI worked by hand from its words, as two lists, what is done and what a source is refused for, and the
 -- statement that each holds; antt computes it. Assumes nothing.
-use Prim.Native.Nat.{ℕ, _^_}
+use Prim.Native.Nat.{ℕ}
 use Prim.Native.String.{String}
 use mathlib.Core.Path.{_≡_, refl}
 use mathlib.Core.Bool.{true}

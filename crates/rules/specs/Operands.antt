@@ -84,7 +84,7 @@ isDecimal ds = isNumeral 10 (beforePoint ds) && isNumeral 10 (afterPoint ds)
 unfoldable pub nearestDecimal : Bool → List ℕ → ℕ
 nearestDecimal minus ds = nearestF minus (numeral 10 (numeral 10 0 (beforePoint ds)) (afterPoint ds)) (10 ^ length (afterPoint ds))
 
--- "two to nine digits in all"
+-- "two to nine digits in all"; two there are where there are digits on both sides
 unfoldable pub digitsIn : List ℕ → ℕ
 digitsIn ds = length (beforePoint ds) + length (afterPoint ds)
 
