@@ -1,7 +1,7 @@
 /* The SaM machine for C: every call of the proved library, with numbers and lent memory only.
  *
- * Link target/staticlib/libsam_c.a. Every call gives a number of document 01, with what requests a (24, 33), d (6) and
- * e (5, 25, 33, 43) add:
+ * Link target/staticlib/libsam_c.a. Every call gives a number of document 01, with what requests a (24, 33), d (6),
+ * e (5, 25, 33, 43) and f (60 to 63) add:
  *
  *    0  done, or a run found HALT 1
  *    1  step with HALT 1
@@ -25,6 +25,8 @@
  *   42  count above 1,024                     45  padding not zero or bytes left over
  *   43  code above 51
  *   50  run limit reached
+ *   60  dwell of a machine that is not halted 62  cell 0 neither INT nor FLOAT
+ *   61  SP is 0                               63  cell 0 a NaN
  *
  * A count of elements stands after each pointer. A pointer is never null and is aligned for its type, also where the
  * count is 0; memory lent to be written overlaps no other memory of the call.
@@ -50,7 +52,9 @@ enum {
     SAM_IMAGE_BYTES = 4866,    /* bytes of a packed image: its exact length */
     SAM_CELL_LIMIT = 1000,     /* N is 1 to this */
     SAM_HISTORY_LIMIT = 8192,  /* H is 0 to this; H = 0 keeps no history */
-    SAM_RUN_LIMIT = 1000000    /* steps of one run */
+    SAM_RUN_LIMIT = 1000000,   /* steps of one run */
+    SAM_DWELL_SHORTEST = 10,   /* a dwell is this many tenths of a second at least, */
+    SAM_DWELL_LONGEST = 300    /* and this many at most */
 };
 
 /* Bytes of stack that a call needs at most, its arguments on the stack and its return address among them, whatever the
@@ -64,7 +68,8 @@ enum {
     SAM_RESET_STACK = 256,
     SAM_STEP_STACK = 768,
     SAM_STEP_BACK_STACK = 512,
-    SAM_RUN_STACK = 768
+    SAM_RUN_STACK = 768,
+    SAM_DWELL_STACK = 512
 };
 
 /* The registers are a lent slice of seven. Registers of another length are 10 and change nothing. */
@@ -117,6 +122,13 @@ uint32_t sam_step_back(const uint64_t *table, size_t places, uint64_t length, ui
 uint32_t sam_run(const uint64_t *table, size_t places, uint64_t length, uint64_t limit, uint64_t *registers,
                  size_t registers_len, uint32_t *bits, size_t n, uint8_t *tags, size_t tags_len, uint64_t *history,
                  size_t h, uint64_t *told, size_t told_len);
+
+/* Reads how long the doors stay open off cell 0 of a halted machine, and writes nothing but told. An INT is tenths of a
+ * second; a FLOAT is seconds, taken as the largest whole tenth that is not above them. Both are held between 10 and 300
+ * tenths. 10 as for a step, then 60 to 63 in order. told[1]: the tenths, 0 where it is refused. */
+uint32_t sam_dwell(const uint64_t *table, size_t places, uint64_t length, const uint64_t *registers,
+                   size_t registers_len, const uint32_t *bits, size_t n, const uint8_t *tags, size_t tags_len,
+                   const uint64_t *history, size_t h, uint64_t *told, size_t told_len);
 
 #ifdef __cplusplus
 }

@@ -17,7 +17,7 @@ const EXPONENT_SPAN: u32 = 0x100;
 // The exponent of the values from 1 on, and that of those whose last digit counts 1.
 const FROM_ONE: u32 = 127;
 
-const WHOLE: u32 = 150;
+pub const WHOLE: u32 = 150;
 
 // The bits of 2^31, and of -2^31.
 const ABOVE_HIGHEST: u32 = 0x4f00_0000;

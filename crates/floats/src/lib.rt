@@ -11,10 +11,10 @@ pub mod conversions;
 pub mod rounding;
 
 // The bit of the sign.
-pub(crate) const SIGN: u32 = 0x8000_0000;
+pub const SIGN: u32 = 0x8000_0000;
 
 // What 1 counts for in the field of the exponent.
-pub(crate) const EXPONENT_WEIGHT: u32 = 0x80_0000;
+pub const EXPONENT_WEIGHT: u32 = 0x80_0000;
 
 // The bits of an infinity.
 const INFINITY: u32 = 0x7f80_0000;
@@ -23,7 +23,7 @@ const INFINITY: u32 = 0x7f80_0000;
 const NAN: u32 = 0x7fc0_0000;
 
 // Whether the bits are a NaN's: without the sign, above those of an infinity.
-fn is_nan(b: u32) -> bool
+pub fn is_nan(b: u32) -> bool
     ensures { λ r. ⌜ r ≡ isNan (ofBits binary32 b) ⌝ }
 {
     b % SIGN > INFINITY

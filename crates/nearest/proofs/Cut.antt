@@ -3,7 +3,7 @@ use mathlib.Core.Path.{_≡_, refl, sym, ap, _∙_}
 use mathlib.Core.Logic.{_⊎_, inl, inr}
 use mathlib.Core.Bool.{Bool, true, false}
 use Prim.Native.Nat.{ℕ, zero, suc, _+_, _-_, _*_, _/_, _%_, _^_, _≤_, _<_}
-use native.Mathlib.Nat.{le-trans, lt-of-lt-of-le, mul-one, div-one, le-div-iff-mul-le, div-lt-iff-lt-mul, mul-le-mul-left}
+use native.Mathlib.Nat.{le-trans, lt-of-lt-of-le, mul-one, one-mul, mul-assoc, div-one, le-div-iff-mul-le, div-lt-iff-lt-mul, mul-le-mul-left}
 use native.Mathlib.Omega.{arith}
 use lib.Dec.{lit<, lit≤, ltb, eqb}
 use lib.IntN.{pos}
@@ -19,7 +19,7 @@ use Rattle.rules.proofs.Tests.{by-test}
 use Rattle.nearest.specs.Nearest.{Finite}
 use Rattle.nearest.proofs.Order.{either-way}
 use Rattle.nearest.proofs.Powers.{raised-twice}
-use Rattle.nearest.proofs.Parts.{scaled-top, magnitude-rises, magnitude-keeps}
+use Rattle.nearest.proofs.Parts.{plus-bits, minus-bits, finite-bits, scaled-top, magnitude-rises, magnitude-keeps}
 
 -- ---- the whole part of the magnitude, by the exponent
 
@@ -39,12 +39,21 @@ module _ (t : ℕ) where
       lt-of-lt-of-le (scaled-top (exponent t) (fraction t) (omega arith))
       (le-trans (mul-le-mul-left (2 ^ 23) (pow-mono {i = exponent t} {j = 126} (omega arith))) (lit≤ tt))
 
-  pub whole-part : 1 ≤ exponent t → exponent t ≤ 150 → magnitude t / scale ≡ (2 ^ 23 + fraction t) / 2 ^ (150 - exponent t)
+  -- of k times the value, for any k
+  pub times-part : (k : ℕ) → 1 ≤ exponent t → exponent t ≤ 150 → k * magnitude t / scale ≡ k * (2 ^ 23 + fraction t) / 2 ^ (150 - exponent t)
   unfolding digits
-  whole-part h l =
+  times-part k h l =
       let e : exponent t ≡ suc (exponent t - 1) = omega arith in
-      div-same (magnitude t) scale digits (2 ^ (150 - exponent t)) (pow-pos 149) (pow-pos (150 - exponent t))
+      div-same (k * magnitude t) scale (k * digits) (2 ^ (150 - exponent t)) (pow-pos 149) (pow-pos (150 - exponent t))
+      (mul-assoc k (magnitude t) (2 ^ (150 - exponent t))
+      ∙ ap (λ (x : ℕ). k * x)
       (ap (λ (x : ℕ). x * 2 ^ (150 - exponent t)) (leading t (exponent t - 1) e) ∙ raised-twice digits (exponent t - 1) (150 - exponent t) 149 (omega arith))
+      ∙ sym (mul-assoc k digits (2 ^ 149)))
+
+  pub whole-part : 1 ≤ exponent t → exponent t ≤ 150 → magnitude t / scale ≡ (2 ^ 23 + fraction t) / 2 ^ (150 - exponent t)
+  whole-part h l =
+      ap (λ (x : ℕ). x / scale) (sym (one-mul (magnitude t))) ∙ times-part 1 h l
+      ∙ ap (λ (x : ℕ). x / 2 ^ (150 - exponent t)) (one-mul (2 ^ 23 + fraction t))
 
   -- below 1 nothing is whole
   pub whole-none : exponent t < 127 → magnitude t / scale ≡ 0
@@ -110,9 +119,6 @@ aboveHighest = 0x4f00_0000
 abbrev lowest : ℕ
 lowest = 0xcf00_0000
 
-finite-bits : (t : ℕ) → t < 2 ^ 32 → exponent t < noValue → Finite t
-finite-bits t h l = record { cell = h; field = l }
-
 above-magnitude : magnitude aboveHighest ≡ 2 ^ 31 * scale
 unfolding magnitude
 above-magnitude = refl
@@ -126,12 +132,6 @@ unfolding magnitude
 past-magnitude = refl
 
 module _ (t : ℕ) (T : t < 2 ^ 32) where
-  plus : t < 2 ^ 31 → negative t ≡ false
-  plus h = lt-leb (2 ^ 31) t h
-
-  minus : 2 ^ 31 ≤ t → negative t ≡ true
-  minus h = le-leb (2 ^ 31) t h
-
   -- below the two the whole part is below 2 ^ 31
   below-whole : t % 2 ^ 31 < aboveHighest → magnitude t / scale < 2 ^ 31
   below-whole h = div-lt-iff-lt-mul (pow-pos 149) .1 (go (either-way (2 ^ 31) t))
@@ -140,8 +140,8 @@ module _ (t : ℕ) (T : t < 2 ^ 32) where
       ft = finite-bits t T (omega arith)
 
       go : (2 ^ 31 ≤ t) ⊎ (t < 2 ^ 31) → magnitude t < 2 ^ 31 * scale
-      go (inl l) = rw lowest-magnitude at (magnitude-rises t lowest ft (finite-bits lowest (lit< tt) (lit< tt)) (minus l) (omega arith))
-      go (inr l) = rw above-magnitude at (magnitude-rises t aboveHighest ft (finite-bits aboveHighest (lit< tt) (lit< tt)) (plus l) (omega arith))
+      go (inl l) = rw lowest-magnitude at (magnitude-rises t lowest ft (finite-bits lowest (lit< tt) (lit< tt)) (minus-bits t l) (omega arith))
+      go (inr l) = rw above-magnitude at (magnitude-rises t aboveHighest ft (finite-bits aboveHighest (lit< tt) (lit< tt)) (plus-bits t l) (omega arith))
 
   pub int-below : t % 2 ^ 31 < aboveHighest → hasInt t ≡ true
   unfolding q
@@ -153,14 +153,14 @@ module _ (t : ℕ) (T : t < 2 ^ 32) where
     outside f (inl l) =
         let past : 2 ^ 31 + 2 ^ 8 ≤ magnitude t / scale =
         le-div-iff-mul-le (pow-pos 149) .1
-        (rw past-magnitude at (magnitude-keeps (suc lowest) t (finite-bits (suc lowest) (lit< tt) (lit< tt)) (finite-bits t T f) (sym (minus l)) (omega (arith, other)))) in
+        (rw past-magnitude at (magnitude-keeps (suc lowest) t (finite-bits (suc lowest) (lit< tt) (lit< tt)) (finite-bits t T f) (sym (minus-bits t l)) (omega (arith, other)))) in
         let above : 2 ^ 31 < 2 ^ 31 + 2 ^ 8 = lit< tt in
-        rw (minus l) (larger-out (magnitude t / scale) (lt-of-lt-of-le above past))
+        rw (minus-bits t l) (larger-out (magnitude t / scale) (lt-of-lt-of-le above past))
     outside f (inr l) =
-        rw (plus l)
+        rw (plus-bits t l)
         (large-out (magnitude t / scale)
         (le-div-iff-mul-le (pow-pos 149) .1
-        (rw above-magnitude at (magnitude-keeps aboveHighest t (finite-bits aboveHighest (lit< tt) (lit< tt)) (finite-bits t T f) (sym (plus l)) (omega arith)))))
+        (rw above-magnitude at (magnitude-keeps aboveHighest t (finite-bits aboveHighest (lit< tt) (lit< tt)) (finite-bits t T f) (sym (plus-bits t l)) (omega arith)))))
 
     int-none : hasInt t ≡ false
     unfolding hasInt

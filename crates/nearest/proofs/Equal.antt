@@ -14,9 +14,9 @@ use Rattle.rules.specs.Tags.{float}
 use Rattle.rules.specs.Floats.{equalF}
 use Rattle.rules.specs.Decide.{agree, nil}
 use Rattle.rules.proofs.Tests.{by-test, either, or-left, or-right, and-left, and-right, and-then}
-use Rattle.rules.specs.Exact.{negative, fraction, magnitude, withSign, exact}
+use Rattle.rules.specs.Exact.{negative, fraction, isNaN, magnitude, withSign, exact}
 use Rattle.nearest.specs.Nearest.{Finite}
-use Rattle.nearest.specs.Equal.{isNaN, isZero, sameFloat}
+use Rattle.nearest.specs.Equal.{isZero, sameFloat}
 use Rattle.nearest.proofs.Cell.{read-finite}
 use Rattle.nearest.proofs.Parts.{one-magnitude}
 use Rattle.nearest.proofs.Compare.{one-size, unlike-zero}
@@ -24,7 +24,7 @@ use Rattle.nearest.proofs.Cells.{equal-exact}
 
 -- ---- "a NaN equal to nothing"
 
-nan-read : (b : ℕ) → isNaN b ≡ isNan (ofBits binary32 b)
+pub nan-read : (b : ℕ) → isNaN b ≡ isNan (ofBits binary32 b)
 unfolding nanBits
 nan-read b = ap (λ (e : ℕ). eqb e 255 && not (eqb (fraction b) 0)) (sym (field b 8 23)) ∙ nanBits-is binary32 b
 

@@ -16,5 +16,6 @@ pub mod Cells
 pub mod Equal
 pub mod Placed
 pub mod Cut
+pub mod Tenths
 pub mod Conversions
 pub mod Checks

@@ -8,9 +8,20 @@ use native.Mathlib.Nat.{eq-or-lt-of-le, le-trans, le-of-eq, le-of-lt, lt-of-lt-o
 use native.Mathlib.Omega.{arith}
 use lib.Pow.{pow-add, pow-pos, pow-mono}
 use borrow.Author.Tests.{leb-true, leb-false, le-leb, lt-leb}
-use Rattle.rules.specs.Exact.{negative, exponent, fraction, scaled, magnitude}
+use Rattle.rules.specs.Exact.{negative, exponent, fraction, noValue, scaled, magnitude}
 use Rattle.nearest.specs.Nearest.{Finite}
 use Rattle.nearest.proofs.Order.{either-way}
+
+-- ---- bits as a number
+
+pub plus-bits : (b : ℕ) → b < 2 ^ 31 → negative b ≡ false
+plus-bits b h = lt-leb (2 ^ 31) b h
+
+pub minus-bits : (b : ℕ) → 2 ^ 31 ≤ b → negative b ≡ true
+minus-bits b h = le-leb (2 ^ 31) b h
+
+pub finite-bits : (b : ℕ) → b < 2 ^ 32 → exponent b < noValue → Finite b
+finite-bits b h f = record { cell = h; field = f }
 
 -- ---- significand and power
 

@@ -1,13 +1,9 @@
 -- Document 02, letter b: "EQUAL of two FLOATs shall follow IEEE 754 comparison: both zeros equal, a NaN equal to nothing." What that says of the bits of
 -- two cells: nothing here is taken from a library of floats. Assumes nothing.
 use Prim.Native.Nat.{ℕ}
-use mathlib.Core.Bool.{Bool, true, false, not, _&&_, _||_, cond}
+use mathlib.Core.Bool.{Bool, true, false, _&&_, _||_, cond}
 use lib.Dec.{eqb}
-use Rattle.rules.specs.Exact.{exponent, fraction, noValue}
-
--- a NaN has the exponent of the infinities, and a fraction that is not 0
-abbrev pub isNaN : ℕ → Bool
-isNaN b = eqb (exponent b) noValue && not (eqb (fraction b) 0)
+use Rattle.rules.specs.Exact.{isNaN}
 
 -- "both zeros"
 abbrev pub isZero : ℕ → Bool

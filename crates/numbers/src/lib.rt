@@ -1,6 +1,8 @@
 // "Numbers given back": the number that a refusal or a call's answer stands for, and the values that it tells.
 use rules::Assembled;
 use rules::Begun;
+use rules::Dwell;
+use rules::DwellRefusal;
 use rules::Ending;
 use rules::ImageRefusal;
 use rules::Listed;
@@ -11,7 +13,7 @@ use rules::Position;
 use rules::Step;
 use rules::TextRefusal;
 ghost use mathlib.Core.Path.{_≡_};
-ghost use Rattle.rules.specs.Numbers.{machineNumber, textNumber, imageNumber, numberOfReset, numberOfStep, numberOfEnding, numberOfAssembled, lengthOfAssembled, positionOfAssembled, numberOfListed, lengthOfListed, numberOfPacked, lengthOfPacked};
+ghost use Rattle.rules.specs.Numbers.{machineNumber, textNumber, imageNumber, numberOfReset, numberOfStep, numberOfEnding, numberOfAssembled, lengthOfAssembled, positionOfAssembled, numberOfListed, lengthOfListed, numberOfPacked, lengthOfPacked, unreadNumber, numberOfDwell, tenthsOfDwell};
 
 // The number of a refusal of the machine: 1 to 11.
 pub fn machine_number(e: MachineRefusal) -> u32
@@ -65,6 +67,19 @@ pub fn image_number(e: ImageRefusal) -> u32
         ImageRefusal::CodeTooHigh => 43,
         ImageRefusal::OperandOutside => 44,
         ImageRefusal::BadPadding => 45,
+    }
+}
+
+// The number of a refusal of the dwell reader: 10, and 60 to 63.
+pub fn unread_number(e: DwellRefusal) -> u32
+    ensures { λ r. ⌜ r ≡ unreadNumber e ⌝ }
+{
+    match e {
+        DwellRefusal::StateBroken => 10,
+        DwellRefusal::NotHalted => 60,
+        DwellRefusal::StackEmpty => 61,
+        DwellRefusal::OtherTag => 62,
+        DwellRefusal::NotANumber => 63,
     }
 }
 
@@ -162,5 +177,24 @@ pub fn packed_length(packed: Packed) -> usize
     match packed {
         Packed::Length(length) => length,
         Packed::Denied(_) => 0,
+    }
+}
+
+// The number and the tenths of a dwell.
+pub fn dwell_number(dwell: Dwell) -> u32
+    ensures { λ r. ⌜ r ≡ numberOfDwell dwell ⌝ }
+{
+    match dwell {
+        Dwell::Tenths(_) => 0,
+        Dwell::Unread(e) => unread_number(e),
+    }
+}
+
+pub fn dwell_tenths(dwell: Dwell) -> usize
+    ensures { λ r. ⌜ r ≡ tenthsOfDwell dwell ⌝ }
+{
+    match dwell {
+        Dwell::Tenths(tenths) => tenths as usize,
+        Dwell::Unread(_) => 0,
     }
 }

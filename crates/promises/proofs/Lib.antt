@@ -1,5 +1,6 @@
 -- The demands, shown.
 pub mod Unique
+pub mod Counts
 pub mod Runs
 pub mod Demand3Trail
 pub mod Demand3Reset
@@ -16,3 +17,6 @@ pub mod RefusalPlaces
 pub mod Refusals
 -- Request d: an address that ADD or SUB makes is the exact one.
 pub mod Addresses
+-- Request f: the dwell that the door board reads.
+pub mod Tenths
+pub mod Dwells

@@ -4,7 +4,7 @@
 use Prim.Native.Nat.{ℕ, zero, suc, _+_, _≤_, _<_}
 use mathlib.Core.Path.{_≡_, refl, sym, ap, _∙_, subst}
 use mathlib.Core.Bool.{Bool, true, false}
-use native.Mathlib.Nat.{add-assoc, add-zero}
+use native.Mathlib.Nat.{add-zero}
 use native.Mathlib.Numerals.{add-one}
 use native.Mathlib.Omega.{arith}
 use lib.Dec.{eqb}
@@ -23,7 +23,8 @@ use Rattle.rules.specs.declared.Step.the-variants.{Next, Refused}
 use Rattle.rules.specs.declared.Ending.{Ending}
 use Rattle.rules.specs.declared.Ending.the-variants.{Halted, LimitReached, Stopped}
 use Rattle.rules.proofs.Runs.{run-halted, run-limit, run-next, run-refused, run-enter}
-use Rattle.promises.specs.Series.{Session, step, run, accepted, ask, series}
+use Rattle.promises.specs.Series.{Session, step, run, accepted, ask, series, fromHere}
+use Rattle.promises.proofs.Counts.{series-from}
 
 -- ---- steps one after the other
 
@@ -47,20 +48,10 @@ steps-next p k r₀ r r′ m₀ m q e =
     ap (λ (n : ℕ). afterSteps p n r₀ m₀) (add-one k) ∙ steps-end p k (standing 0 r₀ m₀) ∙ ap (λ (s : Session). ask p s step) q
     ∙ ap {B = Session} (λ (a : Step). record { registers = registersAfter r a; memory = Step.step p r m .memory; made = k + accepted a; undone = 0 }) e
 
--- k steps within a series: what they leave, and how many are accepted, is a matter of the registers and the memory alone
-abbrev joined : Session → Session → Session
-joined s t = record { registers = t .registers; memory = t .memory; made = s .made + t .made; undone = s .undone }
-
-steps-within : (p : Program) (k : ℕ) (s : Session) → series p (replicate k step) s ≡ joined s (afterSteps p k (s .registers) (s .memory))
-steps-within p zero s =
-    ap {B = Session} (λ (n : ℕ). record { registers = s .registers; memory = s .memory; made = n; undone = s .undone }) (sym (add-zero (s .made)))
-steps-within p (suc k) s =
-    let t : Session = afterSteps p k (s .registers) (s .memory) in
-    let o : Step.Stepped = Step.step p (t .registers) (t .memory) in
-    steps-end p k s ∙ ap (λ (u : Session). ask p u step) (steps-within p k s)
-    ∙ ap {B = Session} (λ (n : ℕ). record { registers = registersAfter (t .registers) (o .answer); memory = o .memory; made = n; undone = s .undone })
-    (add-assoc (s .made) (t .made) (accepted (o .answer)))
-    ∙ ap (joined s) (sym (steps-end p k (standing 0 (s .registers) (s .memory))))
+-- steps take none back
+none-undone : (p : Program) (k : ℕ) (s : Session) → series p (replicate k step) s .undone ≡ s .undone
+none-undone p zero s = refl
+none-undone p (suc k) s = none-undone p k (ask p s step)
 
 -- ---- a run
 
@@ -135,5 +126,7 @@ pub run-within : (p : Program) (limit : ℕ) (s : Session) → sound p (s .regis
 run-within p limit s h l =
     let a : Ran = Run.run p limit (s .registers) (s .memory) in
     let w : IsItsSteps p limit (s .registers) (s .memory) a = run-is-its-steps p limit (s .registers) (s .memory) h l in
-    (λ i. record { registers = w .registers i; memory = w .memory i; made = s .made + sym (w .accepted) i; undone = s .undone })
-    ∙ sym (steps-within p (a .answer .steps) s)
+    let none : s .undone + afterSteps p (a .answer .steps) (s .registers) (s .memory) .undone ≡ s .undone =
+    ap (λ (n : ℕ). s .undone + n) (none-undone p (a .answer .steps) (fromHere s)) ∙ add-zero (s .undone) in
+    (λ i. record { registers = w .registers i; memory = w .memory i; made = s .made + sym (w .accepted) i; undone = sym none i })
+    ∙ sym (series-from p (replicate (a .answer .steps) step) s)

@@ -2,3 +2,4 @@
 pub mod Series
 pub mod Refusals
 pub mod Addresses
+pub mod Dwells

@@ -76,6 +76,10 @@ abbrev pub series : Program → List Request → Session → Session
 series p [] s = s
 series p (q ∷ qs) s = series p qs (ask p s q)
 
+-- the same, with the steps and the step-backs counted from here on
+abbrev pub fromHere : Session → Session
+fromHere s = record { registers = s .registers; memory = s .memory; made = 0; undone = 0 }
+
 -- a fresh reset of the lent memory
 abbrev pub fresh : Program → Memory → Session
 fresh p m =

@@ -57,8 +57,11 @@ reads-in-word z b e = below-in-word z (subst (λ (y : ℤ). mag y < 2 ^ 31) e (s
 
 -- ---- sign and size of the number that a word stands for
 
+pub signed-plus : (t : ℕ) → t < 2 ^ 31 → signed t ≡ pos t
+signed-plus t h = rw (lt-ltb t (2 ^ 31) h)
+
 pub size-plus : (t : ℕ) → t < 2 ^ 31 → natAbs (signed t) ≡ t
-size-plus t h = rw (lt-ltb t (2 ^ 31) h)
+size-plus t h = ap natAbs (signed-plus t h)
 
 pub size-minus : (t : ℕ) → 2 ^ 31 ≤ t → t < 2 ^ 32 → natAbs (signed t) ≡ 2 ^ 32 - 1 - t + 1
 size-minus t h l = rw (le-ltb t (2 ^ 31) h) (omega arith)

@@ -3,18 +3,18 @@ use Prim.Native.Nat.{ℕ}
 use mathlib.Core.Path.{_≡_, sym, ap, _∙_}
 use mathlib.Core.List.{List, [], _∷_}
 use lib.ListN.{length}
-use Rattle.rules.specs.Table.{Program}
 use Rattle.rules.specs.State.{Memory, memory}
-use Rattle.rules.specs.Reset.{Started, reset}
+use Rattle.rules.specs.Reset.{Started}
 use Rattle.rules.specs.Step.{Stepped}
 use Rattle.rules.specs.Run.{Ran}
-use Rattle.rules.specs.Numbers.{numberOfReset, numberOfStep, registersAfter, numberOfEnding}
+use Rattle.rules.specs.Numbers.{numberOfReset, numberOfStep, registersAfter, numberOfEnding, numberOfDwell, tenthsOfDwell}
 use Rattle.rules.specs.declared.Registers.{Registers}
 use Rattle.rules.specs.declared.Reset.{Reset}
 use Rattle.rules.specs.declared.Step.{Step}
 use Rattle.rules.specs.declared.Run.{Run}
+use Rattle.rules.specs.declared.Dwell.{Dwell}
 use Rattle.state.specs.Outcomes.{started, stepped}
-use Rattle.sam_c.specs.Calls.{Filled, Moved, filled, moved, ofLength, listOf, registersOf, resetMoved, stepMoved, Walked, walked, runWalked}
+use Rattle.sam_c.specs.Calls.{Filled, Moved, filled, moved, ofLength, listOf, registersOf, resetMoved, stepMoved, Walked, walked, runWalked, Answered, answered, dwellAnswered}
 use Rattle.sam_c.proofs.Lent.{of-length}
 
 -- a call that fills an output, whose answer is a′ and which leaves out′
@@ -50,5 +50,17 @@ module _ (t : List ℕ) (ht : length t ≡ 1) (l : List ℕ) (h : length l ≡ 7
       (λ i. walked (et i) (ek i) (el i) (em i))
       ∙ ap (λ (a : Run). walked (a .steps ∷ []) (numberOfEnding (a .ending)) (listOf (a .registers)) (f r .memory)) ea
       ∙ ap (λ (q : Registers). runWalked (f q)) er
+      ∙ sym (of-length 7 l _ _ h)
+      ∙ sym (of-length 1 t _ _ ht)
+
+-- a reading f of a machine, which answers d
+module _ (t : List ℕ) (ht : length t ≡ 1) (l : List ℕ) (h : length l ≡ 7) (other instead : Answered) where
+  pub dwell-called : (f : Registers → Dwell) {k : ℕ} {r : Registers} {d : Dwell} {tenths : ℕ} {told : List ℕ} → r ≡ registersOf l → d ≡ f r
+      → told ≡ tenths ∷ [] → tenths ≡ tenthsOfDwell d → k ≡ numberOfDwell d
+      → answered k told ≡ ofLength 1 t (ofLength 7 l (dwellAnswered (f (registersOf l))) other) instead
+  dwell-called f er ed et es ek =
+      (λ i. answered (ek i) ((et ∙ ap (λ (x : ℕ). x ∷ []) es) i))
+      ∙ ap dwellAnswered ed
+      ∙ ap (λ (q : Registers). dwellAnswered (f q)) er
       ∙ sym (of-length 7 l _ _ h)
       ∙ sym (of-length 1 t _ _ ht)

@@ -14,9 +14,11 @@ use Rattle.rules.specs.Reset.{Started, reset}
 use Rattle.rules.specs.Step.{Stepped, step}
 use Rattle.rules.specs.Back.{back}
 use Rattle.rules.specs.Run.{Ran, run}
-use Rattle.rules.specs.Numbers.{machineNumber, textNumber, numberOfAssembled, lengthOfAssembled, positionOfAssembled, numberOfListed, lengthOfListed, numberOfPacked, lengthOfPacked, numberOfReset, numberOfStep, registersAfter, numberOfEnding}
+use Rattle.rules.specs.Dwell.{dwell}
+use Rattle.rules.specs.Numbers.{machineNumber, textNumber, numberOfAssembled, lengthOfAssembled, positionOfAssembled, numberOfListed, lengthOfListed, numberOfPacked, lengthOfPacked, numberOfReset, numberOfStep, registersAfter, numberOfEnding, numberOfDwell, tenthsOfDwell}
 use Rattle.rules.specs.declared.Position.{Position}
 use Rattle.rules.specs.declared.Registers.{Registers}
+use Rattle.rules.specs.declared.Dwell.{Dwell}
 use Rattle.rules.specs.declared.MachineRefusal.the-variants.{Broken}
 use Rattle.rules.specs.declared.TextRefusal.the-variants.{WrongLength}
 
@@ -47,6 +49,14 @@ pub record Walked : Type 0 where
 
 abbrev pub walked : List ℕ → ℕ → List ℕ → Memory → Walked
 walked told k registers m = record { told = told; moved = moved k registers m }
+
+-- of a call that only reads: its number, and what it tells
+pub record Answered : Type 0 where
+  pub number : ℕ
+  pub told : List ℕ
+
+abbrev pub answered : ℕ → List ℕ → Answered
+answered k told = record { number = k; told = told }
 
 -- ---- lent slices of one length
 
@@ -140,3 +150,15 @@ runCall p limit registers m told =
     ofLength 1 told
     (ofLength registerCount registers (runWalked (run p limit (registersOf registers) m)) (walked (0 ∷ []) broken registers m))
     (walked told notItsLength registers m)
+
+-- ---- the call that only reads a machine
+
+-- "each returns 0 tenths" (02 f), registers of another length too
+abbrev pub dwellAnswered : Dwell → Answered
+dwellAnswered d = answered (numberOfDwell d) (tenthsOfDwell d ∷ [])
+
+abbrev pub dwellCall : Program → List ℕ → Memory → List ℕ → Answered
+dwellCall p registers m told =
+    ofLength 1 told
+    (ofLength registerCount registers (dwellAnswered (dwell p (registersOf registers) m)) (answered broken (0 ∷ [])))
+    (answered notItsLength told)

@@ -3,6 +3,7 @@
 mod assemble;
 mod list;
 mod pack;
+mod read_dwell;
 mod registers;
 mod reset;
 mod run;
