@@ -59,6 +59,8 @@ class Script:
         self.refused_steps = Counter()  # (word, name, number, whether there is a history) of each 5 and 6
         self.codes = Counter()  # (word, code, number) of each image of one instruction
         self.decimals = Counter()  # marks of those assembled, and (number, operand) of PUSHIMMF's refused
+        self.dwells = Counter()  # (HALT, whether SP is above 0, cell 0, number, tenths) of each dwell
+        self.dwells_after = Counter()  # (word of the call before on that machine, number) of each dwell
 
     def say(self, line):
         self.lines.append((line, None))
@@ -131,6 +133,7 @@ class LentMachine:
     def __init__(self, script, program, state, registers_length=7):
         self.script, self.program, self.state = script, program, state
         self.registers_length = registers_length
+        self.last_word = None  # of the last call that may change it
         script.program(program)
         self.lend()
 
@@ -153,8 +156,11 @@ class LentMachine:
         self.script.refused_steps[word, name, number, registers.h > 0] += 1
 
     def answer(self, line, number, told):
+        word = line.split(" ", 1)[0]
         if number in COUNTED_REFUSALS:
-            self.count_refusal(line.split(" ", 1)[0], number)
+            self.count_refusal(word, number)
+        if word != "dwell":
+            self.last_word = word
         self.script.call(
             line,
             number,
@@ -182,12 +188,26 @@ class LentMachine:
     def back(self):
         return self.machine_call("back", sam.step_back)
 
-    def run(self, limit, told_length=1, word="run"):
-        """ "A `told` of another length is 31 before anything else and changes nothing" """
+    def telling_call(self, words, call, told_length):
+        """A call that tells one value. "A `told` of another length is 31 before anything else and changes nothing" """
         if told_length != 1:
             number, told = 31, marked(told_length, 8)
         elif self.registers_length != 7:
             number, told = 10, [0]
         else:
-            number, *told = sam.run(self.program, self.state, limit)
-        return self.answer(f"{word} {limit} {told_length}", number, told)
+            number, *told = call()
+        return self.answer(f"{words} {told_length}", number, told)
+
+    def run(self, limit, told_length=1, word="run"):
+        return self.telling_call(f"{word} {limit}", lambda: sam.run(self.program, self.state, limit), told_length)
+
+    def dwell(self, told_length=1):
+        return self.telling_call("dwell", self.counted_dwell, told_length)
+
+    def counted_dwell(self):
+        number, tenths = sam.dwell(self.program, self.state)
+        state, registers = self.state, self.state.registers
+        cell = state.cell(0) if state.bits and state.tags else None
+        self.script.dwells[registers.halt, registers.sp > 0, cell, number, tenths] += 1
+        self.script.dwells_after[self.last_word, number] += 1
+        return number, tenths

@@ -1,9 +1,11 @@
 """The families of cases that compare.py draws from: each adds calls to a script."""
 
+from dataclasses import replace
 from itertools import chain, product
 
 import sam
 from calls import ASSEMBLE_TOLD, IMAGE_BYTES, PLACES, TEXT_BYTES, LentMachine
+from dwells import ADDRESS_CELLS, FLOAT_CELLS, INTEGER_CELLS, KINDS_OF_CELLS, PLAIN_CELLS, any_cell
 from programs import CONVERSIONS, FLOAT_EDGES, FTOI_EDGES, INTEGER_EDGES, ITOF_EDGES, SUMS, TWO_FLOATS, TWO_INTEGERS
 from programs import any_integer, any_operand, any_pattern, any_program
 from sam.actions import FLOAT, INT, MA, PA
@@ -183,11 +185,14 @@ def series_call(chooser, lent):
 
 
 def series_case(chooser, script):
-    """A reset, then steps, runs and step-backs; now and then all the way back."""
+    """A reset, then steps, runs and step-backs; now and then cell 0 is read, or all is taken back."""
     lent = LentMachine(script, made_program(chooser), fresh_state(chooser))
     lent.reset()
     for _ in range(chooser.randrange(4, 30)):
+        if chooser.randrange(6) == 0:
+            lent.dwell()
         series_call(chooser, lent)
+    lent.dwell()
     if chooser.randrange(4) == 0 and lent.state.registers.used <= 100:
         while lent.back() == 0:
             pass
@@ -276,11 +281,13 @@ BREAKS = [break_registers, break_registers, break_cells, break_slices, break_rec
 
 
 def any_call(chooser, lent):
-    kind = chooser.randrange(5)
+    kind = chooser.randrange(6)
     if kind < 2:
         return lent.back()
     if kind < 4:
         return lent.step()
+    if kind < 5:
+        return lent.dwell(chooser.choice([1] * 8 + [0, 2]))
     limit = chooser.choice([0, 1, 50, 1000000, 1000001, DOUBLE_WORD - 1]) if lent.registers_length == 7 else 5
     return lent.run(limit, chooser.choice([1] * 8 + [0, 2]))
 
@@ -294,8 +301,84 @@ def broken_case(chooser, script):
     else:
         chooser.choice(BREAKS)(chooser, program, state)
     lent = LentMachine(script, program, state, chooser.choice([7] * 20 + [6, 8]))
-    for _ in range(4):
+    for _ in range(5):
         any_call(chooser, lent)
+
+
+# ---- cell 0 of a halted machine
+
+JUNK = DOUBLE_WORD - 1  # no well-formed history place
+
+
+def halted(cell, h=0, **registers):
+    """This (tag, bits) as the only value of a machine with HALT 1, or with other registers."""
+    state = stacked(cell, h=h)
+    state.registers = replace(state.registers, **{"halt": 1, **registers})
+    return state
+
+
+def dwell_values(script, program):
+    """Every cell there is a word for, with nothing else to refuse it."""
+    for cell in [*FLOAT_CELLS, *INTEGER_CELLS, *ADDRESS_CELLS]:
+        LentMachine(script, program, halted(cell)).dwell()
+
+
+def dwell_orders(script, program):
+    """Every kind of cell with HALT 0 and 1 and SP 0 and 1, sound and broken, by a tag above SP."""
+    for cell, halt, sp, tag in product(KINDS_OF_CELLS, (0, 1), (0, 1), (INT, 4)):
+        state = halted(cell, halt=halt, sp=sp)
+        state.tags[1] = tag
+        LentMachine(script, program, state).dwell()
+
+
+def dwell_histories(script, program):
+    """Every PC, and histories used up to any place, with nothing well formed in them."""
+    for cell, pc, h in product(PLAIN_CELLS, range(program.length + 2), (0, 1, 8)):
+        for used in range(h + 2):
+            state = halted(cell, h, pc=pc, used=used)
+            state.history[:] = [JUNK] * h
+            lent = LentMachine(script, program, state)
+            lent.dwell()
+            lent.step()
+
+
+def dwell_lengths(script, program):
+    """A told and registers of any length, also where there is another refusal."""
+    for cell, halt, lent_registers, told_length in product(KINDS_OF_CELLS, (0, 1, 2), (0, 6, 7, 8), (0, 1, 2, 3)):
+        LentMachine(script, program, halted(cell, halt=halt), lent_registers).dwell(told_length)
+
+
+def dwell_corners(script):
+    program = single("ADD")
+    for corners in (dwell_values, dwell_orders, dwell_histories, dwell_lengths):
+        corners(script, program)
+
+
+def dwell_state(chooser, program):
+    """A machine after some steps with a cell 0 of its own or another, most often halted there, with other registers and
+    another history."""
+    state = worked_state(chooser, program)
+    r = state.registers
+    if chooser.randrange(8):
+        state.set_cell(0, *any_cell(chooser, program.length))
+    r.halt = chooser.choice([0, 1, 1, 1, 1, 1, 1, 1])
+    r.sp = chooser.choice([0, min(1, r.n - 1), r.n - 1, r.sp, *[chooser.randrange(r.n)] * 4])
+    r.pc, r.fbr, r.used = (chooser.randrange(end + 1) for end in (program.length, r.n - 1, r.h))
+    if chooser.randrange(2):
+        state.history[:] = [chooser.randrange(DOUBLE_WORD)] * r.h
+    return state
+
+
+def dwell_case(chooser, script):
+    """Such a machine, sometimes broken, and sometimes lent a told or registers of another length."""
+    program = made_program(chooser)
+    state = dwell_state(chooser, program)
+    if chooser.randrange(4) == 0:
+        chooser.choice(BREAKS)(chooser, program, state)
+    if chooser.randrange(16) == 0:
+        program = damaged_program(chooser, program)
+    lent = LentMachine(script, program, state, chooser.choice([7] * 20 + [0, 6, 8]))
+    lent.dwell(chooser.choice([1] * 20 + [0, 2]))
 
 
 # ---- one instruction at a time
@@ -470,7 +553,13 @@ def plain_case(chooser, script):
 
 
 # What a family has before its cases are drawn.
-CORNERS = {"text": text_corners, "image": image_corners, "instruction": instruction_corners, "plain": plain_corners}
+CORNERS = {
+    "text": text_corners,
+    "image": image_corners,
+    "dwell": dwell_corners,
+    "instruction": instruction_corners,
+    "plain": plain_corners,
+}
 
 # Each family with its share of the cases.
 FAMILIES = {
@@ -480,5 +569,6 @@ FAMILIES = {
     "reset": (reset_case, 1),
     "instruction": (instruction_case, 40),
     "broken": (broken_case, 5),
+    "dwell": (dwell_case, 6),
     "plain": (plain_case, 4),
 }

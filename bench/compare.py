@@ -6,8 +6,8 @@
 DRIVER and COMMAND are commands: a program, or an emulator and a program. Exit status 1 where anything differs, a
 number of the documents was never given back, a fault of a source was never in a first line or never in a later one, a
 test of FLOATs that request b speaks of, a sum at the ends of 32 bits that request d speaks of or a conversion that
-request e speaks of was never made, a step or a run was never refused at such a sum or conversion, or a kind of decimal
-or a code at the end of the codes was never read.
+request e speaks of was never made, a step or a run was never refused at such a sum or conversion, a kind of decimal or
+a code at the end of the codes was never read, or a dwell that request f speaks of was never read or never refused.
 """
 
 import argparse
@@ -22,12 +22,13 @@ import sam
 from calls import Script
 from cases import CORNERS, FAMILIES
 from decimals import ALL_MARKS, ILL_FORMED, TOO_LONG
+from dwells import KINDS_OF_CELLS, LONGEST, REFUSED_CELLS, SHORTEST, first_of
 from programs import CONVERSIONS, FTOI_ENDS, GREATEST, INFINITIES, INTEGER_TIES, LEAST, MINUS_ZERO, NANS, SUMS, ZEROS
 from sam.actions import FLOAT, INT, MA, PA
 from sam.table import WORD
 from sources import any_source, every_refusal
 
-ALL_NUMBERS = [*range(0, 12), *range(21, 32), 33, *range(41, 46), 50]
+ALL_NUMBERS = [*range(0, 12), *range(21, 32), 33, *range(41, 46), 50, *range(60, 64)]
 FAULTS = [*range(22, 31), 33]  # refusals of a source that have a line
 FLOAT_TESTS = [  # what request b changed
     *[("EQUAL", ((FLOAT, zero), (FLOAT, other)), 0) for zero, other in permutations(ZEROS)],
@@ -55,6 +56,19 @@ CONVERSION_TESTS = [  # what request e added: done, with no room for the record 
 ]
 DECIMALS = [*ALL_MARKS, *[(33, word) for word in ILL_FORMED], *[(25, word) for word in TOO_LONG]]
 LAST_CODES = [(49, 0), (50, 0), (51, 0), (52, 43), (63, 43)]
+HELD = [  # tag, end, and numbers or bits that are held there
+    (INT, SHORTEST, (LEAST, -1, 0, SHORTEST - 1, SHORTEST)),
+    (INT, LONGEST, (LONGEST, LONGEST + 1, GREATEST)),
+    (FLOAT, SHORTEST, (0xFF800000, 0xFF7FFFFF, *ZEROS, 0x00000001, first_of(SHORTEST) - 1)),
+    (FLOAT, LONGEST, (first_of(LONGEST + 1), 0x7F7FFFFF, 0x7F800000)),
+]
+DWELLS_READ = [  # what request f added: cell 0 and its tenths, from the first FLOAT that has them to the last
+    *[((FLOAT, first_of(tenths)), tenths) for tenths in range(SHORTEST, LONGEST + 1)],
+    *[((FLOAT, first_of(tenths + 1) - 1), tenths) for tenths in range(SHORTEST, LONGEST + 1)],
+    *[((INT, tenths), tenths) for tenths in (SHORTEST + 1, LONGEST - 1)],
+    *[((tag, value % WORD), end) for tag, end, values in HELD for value in values],
+]
+DWELLS_AFTER = [("reset", 60), ("step", 60), ("back", 60), ("step", 0), ("run", 0)]  # the call before, and the number
 CUT = 400  # characters of a line that a difference shows
 
 
@@ -161,10 +175,22 @@ def sum_tests():
             yield name, ((tag, below), (INT, top)), number
 
 
+def dwell_tests():
+    """(HALT, whether SP is above 0, cell 0, number, tenths): what is read, and each refusal before those behind it."""
+    for cell, tenths in DWELLS_READ:
+        yield 1, True, cell, 0, tenths
+    for halt, has_value, cell in product((0, 1), (False, True), KINDS_OF_CELLS):
+        yield halt, has_value, cell, 10, 0
+        if halt == 0 or not has_value:
+            yield halt, has_value, cell, 60 if halt == 0 else 61, 0
+    for tag, bits in REFUSED_CELLS:
+        yield 1, True, (tag, bits), 63 if tag == FLOAT else 62, 0
+
+
 def all_met(script):
     """Whether the cases led to every number, to every fault of a source in its first line and in a later one, to every
     test of FLOATs, sum and conversion by the proved step and by the direct run, to sums and conversions refused with
-    and without a history, to every kind of decimal and to the last codes."""
+    and without a history, to every kind of decimal, to the last codes, and to every dwell."""
     lines = product(FAULTS, (1, 2))
     tests = [(word, *test) for word in ("step", "plain") for test in [*FLOAT_TESTS, *sum_tests(), *CONVERSION_TESTS]]
     refused = [*[(name, 6) for name in SUMS], ("FTOI", 5)]
@@ -177,6 +203,8 @@ def all_met(script):
         all_in(script.refused_steps, steps, "never refused without (False) or with (True) a history"),
         all_in(script.decimals, DECIMALS, "decimals never read, or (33, 25) never refused"),
         all_in(script.codes, codes, "codes never unpacked, with their numbers"),
+        all_in(script.dwells, dwell_tests(), "dwells (HALT, any value, cell 0, number, tenths) never read or refused"),
+        all_in(script.dwells_after, DWELLS_AFTER, "dwells never given back after such a call"),
     ]
     return all(complete)
 

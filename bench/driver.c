@@ -189,6 +189,13 @@ static void call_run(run_call *call) {
                        bits.count, data(&tags), tags.count, data(&history), history.count, data(&told), told.count));
 }
 
+static void call_dwell(void) {
+    lend(&told, read_number());
+    print_machine(sam_dwell(data(&table), table.count, length, data(&registers), registers.count, data(&bits),
+                            bits.count, data(&tags), tags.count, data(&history), history.count, data(&told),
+                            told.count));
+}
+
 static void obey(const char *word) {
     if (strcmp(word, "assemble") == 0) call_reading(sam_assemble);
     else if (strcmp(word, "unpack") == 0) call_reading(sam_unpack);
@@ -203,6 +210,7 @@ static void obey(const char *word) {
     else if (strcmp(word, "step") == 0) call_machine(sam_step);
     else if (strcmp(word, "back") == 0) call_machine(sam_step_back);
     else if (strcmp(word, "run") == 0) call_run(sam_run);
+    else if (strcmp(word, "dwell") == 0) call_dwell();
     else if (strcmp(word, "plain") == 0) call_run(plain_run);
     else if (strcmp(word, "plain_pack") == 0) call_writing(plain_pack);
     else if (strcmp(word, "plain_unpack") == 0) call_reading(plain_unpack);

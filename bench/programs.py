@@ -129,6 +129,13 @@ class Builder:
             self.put("PUSHIMMPA 0")
             self.tags.append(PA)
 
+    def push_dwell(self):
+        """Tenths as an INT, or the same in seconds, within the range of a dwell or little beyond."""
+        tenths = self.chooser.randrange(5, 320)
+        line, tag = self.chooser.choice([(f"PUSHIMM {tenths}", INT), (f"PUSHIMMF {tenths // 10}.{tenths % 10}", FLOAT)])
+        self.put(line)
+        self.tags.append(tag)
+
     def work(self):
         """An instruction that takes the values on top, and what it leaves there."""
         chooser, top = self.chooser, self.tags[-2:]
@@ -255,6 +262,9 @@ class Builder:
             chooser.choice(most + some + [self.convert, self.copy_by_far_address])()
 
     def source(self, pieces):
+        """Often with a dwell at the bottom, where the door board reads it."""
+        if self.chooser.randrange(2):
+            self.push_dwell()
         for _ in range(pieces):
             self.piece()
         lines = self.lines + ["STOP"]

@@ -62,6 +62,11 @@ static void run(void) {
                      SAM_CELL_LIMIT, history, SAM_HISTORY_LIMIT, told, 1);
 }
 
+static void dwell(void) {
+    number = sam_dwell(table, SAM_TABLE_PLACES, length, registers, SAM_REGISTERS, bits, SAM_CELL_LIMIT, tags,
+                       SAM_CELL_LIMIT, history, SAM_HISTORY_LIMIT, told, 1);
+}
+
 /* What request c forbids, to see that the measurement finds it. */
 static void pack_by_a_copy(void) {
     uint8_t copy[SAM_IMAGE_BYTES];
@@ -79,8 +84,21 @@ static void write_full_source(void) {
     }
 }
 
-/* A program, its image, and a machine that has made a step if there is one to make. */
-static void prepare(bool is_full) {
+/* Cell 0 of a halted machine: 40 tenths, 2.5 seconds, the least FLOAT and the greatest. */
+static const struct cell {
+    uint8_t tag;
+    uint32_t value;
+} TENTHS = {SAM_INT, 40}, SECONDS = {SAM_FLOAT, 0x40200000}, LEAST = {SAM_FLOAT, 1}, GREATEST = {SAM_FLOAT, 0x7F7FFFFF};
+
+static void halt_at(const struct cell *cell) {
+    registers[SAM_HALT] = 1;
+    registers[SAM_SP] = 1;
+    tags[0] = cell->tag;
+    bits[0] = cell->value;
+}
+
+/* A program, its image, and a machine that has made a step if there is one to make, or is halted at a cell. */
+static void prepare(bool is_full, const struct cell *cell) {
     source_len = 0;
     if (is_full) write_full_source();
     assemble();
@@ -90,6 +108,7 @@ static void prepare(bool is_full) {
     image_len = told[0];
     reset();
     step();
+    if (cell != NULL) halt_at(cell);
 }
 
 /* ---- the painted stack */
@@ -124,11 +143,11 @@ static size_t depth_in(unsigned char colour, void (*call)(void)) {
 }
 
 /* In two colours, since a call may write the paint's own byte. The first time the linker may look up memset there. */
-static size_t depth(bool is_full, void (*call)(void)) {
+static size_t depth(bool is_full, const struct cell *cell, void (*call)(void)) {
     static const unsigned char colours[] = {0xA5, 0xA5, 0x5A};
     size_t deepest = 0;
     for (size_t i = 0; i < sizeof colours; i++) {
-        prepare(is_full);
+        prepare(is_full, cell);
         size_t now = depth_in(colours[i], call);
         if (i > 0 && now > deepest) deepest = now;
     }
@@ -138,9 +157,9 @@ static size_t depth(bool is_full, void (*call)(void)) {
 static void nothing(void) {}
 
 /* `number` is then the call's. */
-static size_t used(bool is_full, void (*call)(void)) {
-    size_t without = depth(is_full, nothing);
-    return depth(is_full, call) - without;
+static size_t used(bool is_full, const struct cell *cell, void (*call)(void)) {
+    size_t without = depth(is_full, cell, nothing);
+    return depth(is_full, cell, call) - without;
 }
 
 /* ---- the table */
@@ -148,22 +167,27 @@ static size_t used(bool is_full, void (*call)(void)) {
 static const struct row {
     const char *name;
     void (*call)(void);
-    size_t most;          /* bytes, by sam.h */
-    uint32_t empty, full; /* the numbers that the call gives */
+    const struct cell *cell; /* where the machine is halted, or none */
+    size_t most;             /* bytes, by sam.h */
+    uint32_t empty, full;    /* the numbers that the call gives */
 } ROWS[] = {
-    {"assemble", assemble, SAM_ASSEMBLE_STACK, 0, 0},
-    {"list", list, SAM_LIST_STACK, 0, 0},
-    {"pack", pack, SAM_PACK_STACK, 0, 0},
-    {"unpack", unpack, SAM_UNPACK_STACK, 0, 0},
-    {"reset", reset, SAM_RESET_STACK, 0, 0},
-    {"step", step, SAM_STEP_STACK, 2, 0},
-    {"step back", step_back, SAM_STEP_BACK_STACK, 9, 0},
-    {"run", run, SAM_RUN_STACK, 2, 50},
+    {"assemble", assemble, NULL, SAM_ASSEMBLE_STACK, 0, 0},
+    {"list", list, NULL, SAM_LIST_STACK, 0, 0},
+    {"pack", pack, NULL, SAM_PACK_STACK, 0, 0},
+    {"unpack", unpack, NULL, SAM_UNPACK_STACK, 0, 0},
+    {"reset", reset, NULL, SAM_RESET_STACK, 0, 0},
+    {"step", step, NULL, SAM_STEP_STACK, 2, 0},
+    {"step back", step_back, NULL, SAM_STEP_BACK_STACK, 9, 0},
+    {"run", run, NULL, SAM_RUN_STACK, 2, 50},
+    {"dwell INT", dwell, &TENTHS, SAM_DWELL_STACK, 0, 0},
+    {"dwell FLOAT", dwell, &SECONDS, SAM_DWELL_STACK, 0, 0},
+    {"dwell least", dwell, &LEAST, SAM_DWELL_STACK, 0, 0},
+    {"dwell most", dwell, &GREATEST, SAM_DWELL_STACK, 0, 0},
 };
 
 /* The bytes of a call, which must give this number. */
 static size_t measured(const struct row *row, bool is_full, uint32_t expected) {
-    size_t bytes = used(is_full, row->call);
+    size_t bytes = used(is_full, row->cell, row->call);
     if (number != expected) die(row->name);
     return bytes;
 }
@@ -171,14 +195,14 @@ static size_t measured(const struct row *row, bool is_full, uint32_t expected) {
 static bool is_within(const struct row *row) {
     size_t empty = measured(row, false, row->empty), full = measured(row, true, row->full);
     bool within = empty <= row->most && full <= row->most && (row->call != pack || full <= empty);
-    printf("%-10s %6zu %6zu %9zu%s\n", row->name, empty, full, row->most, within ? "" : "   TOO MUCH");
+    printf("%-11s %6zu %6zu %9zu%s\n", row->name, empty, full, row->most, within ? "" : "   TOO MUCH");
     return within;
 }
 
 int main(void) {
     bool within = true;
-    printf("stack      empty  1,024   at most\n");
+    printf("stack        empty  1,024   at most\n");
     for (size_t i = 0; i < sizeof ROWS / sizeof ROWS[0]; i++) within = is_within(&ROWS[i]) && within;
-    if (used(true, pack_by_a_copy) < SAM_IMAGE_BYTES) die("a copy of the image was not seen");
+    if (used(true, NULL, pack_by_a_copy) < SAM_IMAGE_BYTES) die("a copy of the image was not seen");
     return within ? 0 : 1;
 }

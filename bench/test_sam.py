@@ -1,5 +1,5 @@
 #!/usr/bin/env python3
-"""Tests of the interpreter in sam/: the twelve P examples of document 01, its sentences, requests a, b, d and e,
+"""Tests of the interpreter in sam/: the twelve P examples of document 01, its sentences, requests a, b, d, e and f,
 and the settled readings.
 
 Every expected value is read off the documents or worked out by hand; none is copied from an output.
@@ -1223,6 +1223,349 @@ class Conversions(unittest.TestCase):
         self.assertEqual(sam.console(b"STOP\nPUSHIMMF 2."), "refused 33 14 2 10\n")
         self.assertEqual(sam.console(b"STOP\nPUSHIMMF 12345678.90"), "refused 25 14 2 10\n")
         self.assertEqual(sam.console(b"STOP\nADD."), "refused 23 5 2 1\n")
+
+
+class Dwell(unittest.TestCase):
+    """Request f: the dwell reader."""
+
+    SHORTEST, LONGEST = 10, 300
+    UNIT = 1 << 149  # a finite FLOAT is a whole number over this
+    GREATEST_FLOAT = 0x7F7FFFFF
+    NANS = [0x7F800001, 0x7FBFFFFF, 0x7FC00000, 0x7FFFFFFF, 0xFF800001, 0xFFBFFFFF, 0xFFC00000, 0xFFFFFFFF]
+
+    # FLOATs and the tenths that they are, worked out by hand.
+    FLOATS = [
+        (0x3F800000, 10),  # 1 s
+        (0x3F8CCCCC, 10),  # the last below 1.1 s
+        (0x3F8CCCCD, 11),  # the first above it: a tenth of 2^23 is 838860.8, and 838861 is #0CCCCD
+        (0x40000000, 20),
+        (0x40133333, 22),  # 2.3 typed lies below 2.3: 0.15 times 2^23 is 1258291.2, and 1258291 is #133333
+        (0x40133334, 23),
+        (0x401FFFFF, 24),
+        (0x40200000, 25),  # 2.5 s
+        (0x40200001, 25),
+        (0x40800000, 40),  # 4 s
+        (0x417FFFFF, 159),
+        (0x41800000, 160),  # 16 s
+        (0x41EF3333, 298),  # 29.9 typed: 0.86875 times 2^23 is 7287603.2, and 7287603 is #6F3333
+        (0x41EF3334, 299),
+        (0x41EFFFFF, 299),  # the last below 30 s
+        (0x41F00000, 300),
+    ]
+    # FLOATs that are held at the lower end and at the upper one.
+    SHORT = [
+        0x3F7FFFFF,  # the last below 1 s
+        0x3F666666,  # 0.9 s typed
+        0x3F000000,
+        0x00800000,
+        0x007FFFFF,
+        0x00000028,  # 40 of the least: an INT's 40 tenths with a FLOAT's tag
+        0x00000001,  # the least there is
+        0x00000000,
+        0x80000000,  # minus zero is 0
+        0x80000001,
+        0xBF800000,
+        0xC0200000,  # -2.5 s
+        0xC1F00000,  # -30 s
+        0xFF7FFFFF,
+        0xFF800000,  # "infinities go to the nearer end"
+    ]
+    LONG = [
+        0x41F00001,  # the first above 30 s
+        0x41F0CCCD,  # 30.1 s typed
+        0x42200000,  # 40 s
+        0x4D4CCCCD,  # 2^31 tenths and above, 2^32 and above
+        0x4DCCCCCD,
+        0x4F000000,
+        0x4F800000,
+        0x7F7FFFFF,
+        0x7F800000,
+    ]
+
+    def read(self, cell, program_text="STOP", **registers):
+        """(number, tenths) of a machine with this cell on its stack, halted where nothing else is said."""
+        state = stacked(cell)
+        state.registers = replace(state.registers, **{"halt": 1, **registers})
+        return self.read_state(program(program_text), state)
+
+    def read_state(self, made, state):
+        """(number, tenths); the machine stays as it was, and so does the table."""
+        table, before = list(made.table), contents(state)
+        answer = sam.dwell(made, state)
+        self.assertEqual((made.table, contents(state)), (table, before))
+        return answer
+
+    def of_program(self, text, **sizes):
+        """(number, tenths) where the program halts or is refused."""
+        made, state = started(text, **sizes)
+        sam.run(made, state, 1000)
+        return self.read_state(made, state)
+
+    def over_unit(self, bits):
+        """The whole number over 2^149 that a finite FLOAT is, read off its bits."""
+        exponent, fraction = bits >> 23 & 0xFF, bits & 0x7FFFFF
+        magnitude = (fraction + (1 << 23)) << (exponent - 1) if exponent else fraction
+        return -magnitude if bits >> 31 else magnitude
+
+    def check_float(self, bits):
+        """By cross products: "the largest whole tenth not above the exact ten times that number", held."""
+        number, tenths = self.read((FLOAT, bits))
+        self.assertEqual(number, 0, hex(bits))
+        self.assertTrue(self.SHORTEST <= tenths <= self.LONGEST, hex(bits))
+        ten_times = 10 * self.over_unit(bits)
+        self.assertTrue(tenths == self.SHORTEST or tenths * self.UNIT <= ten_times, (hex(bits), tenths))
+        self.assertTrue(tenths == self.LONGEST or ten_times < (tenths + 1) * self.UNIT, (hex(bits), tenths))
+
+    def first_of(self, tenths):
+        """The first FLOAT that is not below so many tenths: FLOATs above 0 rise with their bits."""
+        low, high = 0, self.GREATEST_FLOAT
+        while low < high:
+            middle = (low + high) // 2
+            if 10 * self.over_unit(middle) >= tenths * self.UNIT:
+                high = middle
+            else:
+                low = middle + 1
+        return low
+
+    # ---- what is read
+
+    def test_integers(self):
+        """ "INT is tenths of a second" """
+        for number in range(self.SHORTEST, self.LONGEST + 1):
+            self.assertEqual(self.read((INT, number)), (0, number))
+
+    def test_integers_held(self):
+        """ "The result is held between 10 and 300 tenths" """
+        for number in [9, 1, 0, -1, -9, -10, -40, -300, -2147483647, -2147483648]:
+            self.assertEqual(self.read((INT, number % WORD)), (0, 10), number)
+        for number in [301, 302, 1000, 65536 + 40, 16777216 + 40, 2147483647]:
+            self.assertEqual(self.read((INT, number)), (0, 300), number)
+
+    def test_integer_with_bits_of_a_float(self):
+        """An INT is a number whatever its bits: 2.5's, those of the infinities and of NaNs."""
+        for bits in [0x40200000, 0x7F800000, *[nan for nan in self.NANS if nan < 1 << 31]]:
+            self.assertEqual(self.read((INT, bits)), (0, 300), hex(bits))
+        for bits in [0xC0200000, 0xFF800000, *[nan for nan in self.NANS if nan >= 1 << 31]]:
+            self.assertEqual(self.read((INT, bits)), (0, 10), hex(bits))
+
+    def test_floats(self):
+        for bits, tenths in self.FLOATS:
+            self.assertEqual(self.read((FLOAT, bits)), (0, tenths), hex(bits))
+
+    def test_floats_held(self):
+        for bits in self.SHORT:
+            self.assertEqual(self.read((FLOAT, bits)), (0, 10), hex(bits))
+        for bits in self.LONG:
+            self.assertEqual(self.read((FLOAT, bits)), (0, 300), hex(bits))
+
+    def test_every_tenth(self):
+        """The first FLOAT of each tenth, and the one just below it, which has one tenth less."""
+        for tenths in range(self.SHORTEST + 1, self.LONGEST + 1):
+            first = self.first_of(tenths)
+            self.assertEqual(self.read((FLOAT, first)), (0, tenths), tenths)
+            self.assertEqual(self.read((FLOAT, first - 1)), (0, tenths - 1), tenths)
+        self.assertEqual((self.first_of(10), self.first_of(300)), (0x3F800000, 0x41F00000))
+
+    def test_beside_tenths(self):
+        for tenths in range(self.SHORTEST - 1, self.LONGEST + 2):
+            for bits in range(self.first_of(tenths) - 3, self.first_of(tenths) + 3):
+                self.check_float(bits)
+                self.check_float(bits | 1 << 31)
+
+    def test_every_exponent(self):
+        for exponent, sign in product(range(255), (0, 1)):
+            for fraction in (0, 1, 0x199999, 0x19999A, 0x400000, 0x666666, 0x7FFFFF):
+                self.check_float(sign << 31 | exponent << 23 | fraction)
+
+    def test_drawn(self):
+        chooser = random.Random(6)
+        for _ in range(3000):
+            self.check_float(chooser.randrange(126, 133) << 23 | chooser.randrange(1 << 23))
+
+    def test_typed(self):
+        """A decimal of one place is its own tenths, or one less where its nearest FLOAT lies below it."""
+        for tenths in range(self.SHORTEST, self.LONGEST + 1):
+            text = f"PUSHIMMF {tenths // 10}.{tenths % 10} STOP"
+            bits = program(text).table[0] % WORD
+            is_below = 10 * self.over_unit(bits) < tenths * self.UNIT
+            self.assertEqual(self.of_program(text), (0, tenths - is_below), text)
+
+    def test_programs(self):
+        for text, tenths in [
+            ("PUSHIMM 40 STOP", 40),
+            ("PUSHIMMF 2.5 STOP", 25),
+            ("PUSHIMMF 2.3 STOP", 22),
+            ("PUSHIMMF 2.4 STOP", 24),  # 0.2 times 2^23 is 1677721.6: the nearest lies above
+            ("PUSHIMM 4 ITOF STOP", 40),
+            ("PUSHIMMF 4.0 FTOI STOP", 10),  # INT 4 is 4 tenths
+            ("PUSHIMMF 2.5 PUSHIMMF 2.0 TIMESF STOP", 50),
+            ("PUSHIMMF 0.0 PUSHIMMF -1.0 TIMESF STOP", 10),  # minus zero
+            ("PUSHIMMF 1.0 PUSHIMMF 0.0 DIVF STOP", 300),
+            ("PUSHIMMF -1.0 PUSHIMMF 0.0 DIVF STOP", 10),
+            ("PUSHIMM 2147483647 PUSHIMM 1 ADD STOP", 10),  # it wraps
+            ("PUSHIMM 40 PUSHIMM 70 STOP", 40),  # cell 0, not the top
+            ("PUSHIMM 40 PUSHSP STOP", 40),
+            ("PUSHIMM 40 PUSHIMMF #7FC00000 STOP", 40),
+            ("PUSHIMM 40 LINK PUSHIMM 70 STOP", 40),  # nor where FBR is
+            ("PUSHIMM 40 PUSHIMMF 2.5 STOREOFF 0 STOP", 25),
+            ("JUMP end PUSHIMM 50 STOP end: PUSHIMM 60 STOP", 60),
+        ]:
+            for h in (0, 64):
+                self.assertEqual(self.of_program(text, h=h), (0, tenths), text)
+
+    # ---- refusals
+
+    def test_not_halted(self):
+        for text in [
+            "PUSHIMM 40",  # off the end: PC is the length and HALT 0
+            "",
+            "PUSHIMM 40 ADD",  # ended by 3
+            "PUSHIMM 40 a: JUMP a",  # by the limit
+            "PUSHIMMF #7FC00000",
+            "PUSHSP",
+        ]:
+            self.assertEqual(self.of_program(text), (60, 0), text)
+        made, state = started("PUSHIMM 40 STOP")
+        self.assertEqual(self.read_state(made, state), (60, 0))  # before the first step
+
+    def test_no_value(self):
+        """61 also where cell 0 has a value that was popped."""
+        for text in ["STOP", "PUSHIMM 40 ADDSP -1 STOP", "PUSHSP POPSP STOP", "PUSHIMM 1 JUMPC 2 STOP"]:
+            self.assertEqual(self.of_program(text), (61, 0), text)
+
+    def test_tags(self):
+        for text in ["PUSHSP STOP", "PUSHFBR STOP", "LINK STOP", "PUSHIMMPA 0 STOP", "JSR 1 STOP"]:
+            self.assertEqual(self.of_program(text), (62, 0), text)
+        for bits in [0, 40, 0x40200000, 0x7F800000, *self.NANS]:
+            self.assertEqual(self.read((MA, bits)), (62, 0), hex(bits))
+        self.assertEqual(self.read((PA, 1)), (62, 0))
+
+    def test_nans(self):
+        """Any NaN of either sign is refused, and none is held."""
+        for bits in self.NANS:
+            self.assertEqual(self.read((FLOAT, bits)), (63, 0), hex(bits))
+        self.assertEqual(self.of_program("PUSHIMMF 0.0 PUSHIMMF 0.0 DIVF STOP"), (63, 0))
+        self.assertEqual(self.of_program("PUSHIMMF #7F800000 PUSHIMMF #FF800000 ADDF STOP"), (63, 0))
+
+    def test_order(self):
+        """ "10 as for step, then 60 not halted, 61 SP is 0, 62 tag neither INT nor FLOAT, 63 NaN": each before those
+        behind it."""
+        nan, address, number = (FLOAT, 0x7FC00000), (MA, 0x7FC00000), (INT, 40)
+        for cell in (nan, address, number):
+            self.assertEqual(self.read(cell, halt=0), (60, 0))
+            self.assertEqual(self.read(cell, halt=0, sp=0), (60, 0))
+            self.assertEqual(self.read(cell, sp=0), (61, 0))
+        self.assertEqual(self.read(address), (62, 0))  # 62 before 63: its bits are a NaN's
+        self.assertEqual(self.read(nan), (63, 0))
+        for cell, halt, sp in product((nan, address, number), (0, 1), (0, 1)):
+            self.assertEqual(self.read(cell, halt=halt, sp=sp, fbr=2), (10, 0), (cell, halt, sp))
+
+    # ---- 10 as for step
+
+    def halted(self, n=4, h=8):
+        """A machine with 40 tenths in cell 0, to be broken."""
+        made, state = started("PUSHIMM 40 STOP", n=n, h=h)
+        sam.run(made, state, 9)
+        return made, state
+
+    def check_broken(self, made, state):
+        self.assertEqual(sam.step(made, state), 10)
+        self.assertEqual(self.read_state(made, state), (10, 0))
+
+    def test_broken_registers(self):
+        for name, value in [
+            ("n", 0), ("n", 3), ("n", 5), ("h", 7), ("h", 9), ("pc", 3), ("pc", 1 << 63), ("sp", 4), ("sp", 1 << 63),
+            ("fbr", 4), ("fbr", 1 << 63), ("halt", 2), ("halt", 1 << 63), ("used", 9), ("used", 1 << 63),
+        ]:  # fmt: skip
+            made, state = self.halted()
+            setattr(state.registers, name, value)
+            self.check_broken(made, state)
+
+    def test_broken_cells(self):
+        """All N cells are judged, live or not."""
+        for address, tag, bits in [(0, 4, 40), (3, 4, 0), (3, 255, 0), (0, PA, 3), (3, PA, 3), (3, PA, WORD - 1)]:
+            made, state = self.halted()
+            state.set_cell(address, tag, bits)
+            self.check_broken(made, state)
+
+    def test_broken_slices(self):
+        for name in ("bits", "tags", "history"):
+            made, state = self.halted()
+            getattr(state, name).append(0)
+            self.check_broken(made, state)
+            del getattr(state, name)[-2:]
+            self.check_broken(made, state)
+
+    def test_broken_sizes(self):
+        made, state = self.halted(n=1000, h=8192)
+        self.assertEqual(self.read_state(made, state), (0, 40))
+        state.history.append(0)
+        state.registers.h += 1
+        self.check_broken(made, state)
+        made, state = self.halted(n=1000)
+        state.bits.append(0)
+        state.tags.append(INT)
+        state.registers.n += 1
+        self.check_broken(made, state)
+
+    def test_broken_table(self):
+        made, state = self.halted()
+        for table, length in [
+            (made.table, 1025),
+            (made.table[:1023], 2),
+            (made.table + [0], 2),
+            ([52 << 32] + made.table[1:], 2),
+            (made.table[:1023] + [1], 2),
+        ]:
+            self.check_broken(sam.Program(table, length), state)
+
+    def test_at_the_ends_of_sound(self):
+        """Not broken: the largest registers, a PA at the length, the least machines."""
+        made, state = self.halted()
+        state.registers = sam.Registers(n=4, h=8, pc=2, sp=3, fbr=3, halt=1, used=8)
+        state.set_cell(3, PA, 2)
+        self.assertEqual(self.read_state(made, state), (0, 40))
+        self.assertEqual(self.of_program("PUSHIMM 40 STOP", n=2), (0, 40))
+        self.assertEqual(self.of_program("STOP", n=1), (61, 0))  # N = 1 has never a value
+
+    def test_history_is_not_looked_at(self):
+        """Only its length and U: a top record that a step-back refuses is no 10 here, as it is none for a step."""
+        made, state = self.halted(h=8)
+        for used in range(9):
+            state.registers.used = used
+            state.history[:] = [~0 % (1 << 64)] * 8
+            self.assertEqual(self.read_state(made, state), (0, 40), used)
+            self.assertEqual(sam.step(made, state), 1, used)
+            self.assertEqual(sam.step_back(made, state), 10 if used else 9, used)
+
+    def test_program_is_only_judged(self):
+        """PC may be anywhere: what stands there plays no part."""
+        for pc in range(4):
+            self.assertEqual(self.read((INT, 40), program_text="PUSHIMM 7 ADD STOP", pc=pc), (0, 40), pc)
+
+    # ---- the complaint
+
+    def test_complaint(self):
+        """40 tenths, a trial with 2.5 s over them, the trial taken back, and 40 tenths again: not the FLOAT near 0 that
+        the bits of 40 are where the tag is left."""
+        made, state = started("PUSHIMM 40 STOP", h=16)
+        trial = program("PUSHIMM 40 PUSHIMMF 2.5 STOREOFF 0 STOP")
+        self.assertEqual(sam.run(made, state, 9), (0, 2))
+        self.assertEqual(self.read_state(made, state), (0, 40))
+        first = contents(state)
+        self.assertEqual(sam.step_back(made, state), 0)
+        self.assertEqual(self.read_state(made, state), (60, 0))
+        self.assertEqual(sam.run(trial, state, 9), (0, 3))
+        self.assertEqual(self.read_state(trial, state), (0, 25))
+        for cell in [(FLOAT, 0x40200000), (INT, 40), (INT, 40)]:
+            self.assertEqual(sam.step_back(trial, state), 0)
+            self.assertEqual(state.cell(0), cell)
+            self.assertEqual(self.read_state(trial, state), (60, 0))
+        self.assertEqual(sam.run(made, state, 9), (0, 1))
+        self.assertEqual(contents(state), first)
+        self.assertEqual(self.read_state(made, state), (0, 40))
+        state.tags[0] = FLOAT  # as the machine in use before left it
+        self.assertEqual(self.read_state(made, state), (0, 10))
 
 
 class Soundness(unittest.TestCase):

@@ -1,4 +1,4 @@
-/* Tests of the C library through sam.h: the complaint of document 01, those of requests b and d, request e, and
+/* Tests of the C library through sam.h: the complaint of document 01, those of requests b and d, requests e and f, and
  * samples of every refusal. One line for each check. */
 #include <stdbool.h>
 #include <stdio.h>
@@ -244,7 +244,7 @@ static const struct { const char *source; uint64_t steps; } wrapping_addresses[]
 };
 
 /* All that a call may change, as it was. */
-static struct {
+static struct machine {
     uint64_t registers[SAM_REGISTERS], history[SAM_HISTORY_LIMIT];
     uint32_t bits[SAM_CELL_LIMIT];
     uint8_t tags[SAM_CELL_LIMIT];
@@ -549,6 +549,260 @@ static void test_conversions_back(void) {
     check_cell("  after FTOI", 0, SAM_INT, 16777216);
 }
 
+/* ---- request f: the dwell reader of the door board */
+
+static uint32_t dwell(void) {
+    return sam_dwell(table, SAM_TABLE_PLACES, length, registers, SAM_REGISTERS, bits, n, tags, n, history, h, told, 1);
+}
+
+/* The number and the tenths, and that nothing else is written. */
+static void check_dwell(const char *name, uint32_t number, uint64_t tenths) {
+    static uint64_t kept_table[SAM_TABLE_PLACES];
+    keep();
+    memcpy(kept_table, table, sizeof kept_table);
+    mark_told();
+    check(name, number, dwell());
+    check("  tenths", tenths, told[0]);
+    check_told_marked(1);
+    check_kept("  nothing written");
+    check("  nothing written", 0, (uint64_t)(memcmp(kept_table, table, sizeof kept_table) != 0));
+}
+
+/* A program, and the tenths read where it has halted. */
+static const struct { const char *source; uint64_t tenths; } dwells[] = {
+    {"PUSHIMM 40 STOP", 40},
+    {"PUSHIMM 10 STOP", 10},
+    {"PUSHIMM 11 STOP", 11},
+    {"PUSHIMM 299 STOP", 299},
+    {"PUSHIMM 300 STOP", 300},
+    {"PUSHIMM 9 STOP", 10}, /* held at the ends */
+    {"PUSHIMM 0 STOP", 10},
+    {"PUSHIMM -1 STOP", 10},
+    {"PUSHIMM -40 STOP", 10},
+    {"PUSHIMM -2147483648 STOP", 10},
+    {"PUSHIMM 301 STOP", 300},
+    {"PUSHIMM 65576 STOP", 300},
+    {"PUSHIMM 2147483647 STOP", 300},
+    {"PUSHIMM 2143289344 STOP", 300}, /* the bits #7FC00000: no NaN, but an INT */
+    {"PUSHIMM -4194304 STOP", 10},    /* #FFC00000 */
+    {"PUSHIMMF 2.5 STOP", 25},
+    {"PUSHIMMF 2.3 STOP", 22}, /* binary32's 2.3 lies below it, */
+    {"PUSHIMMF 2.4 STOP", 24}, /* and its 2.4 above */
+    {"PUSHIMMF #40133334 STOP", 23},
+    {"PUSHIMMF 4.0 STOP", 40},
+    {"PUSHIMM 4 ITOF STOP", 40},
+    {"PUSHIMMF 1.0 STOP", 10},
+    {"PUSHIMMF #3F8CCCCC STOP", 10}, /* the last below 1.1, and the first above */
+    {"PUSHIMMF #3F8CCCCD STOP", 11},
+    {"PUSHIMMF #417FFFFF STOP", 159}, /* the last below 16.0 */
+    {"PUSHIMMF 16.0 STOP", 160},
+    {"PUSHIMMF 29.9 STOP", 298},
+    {"PUSHIMMF #41EFFFFF STOP", 299}, /* the last below 30.0 */
+    {"PUSHIMMF 30.0 STOP", 300},
+    {"PUSHIMMF #3F7FFFFF STOP", 10}, /* held at the ends */
+    {"PUSHIMMF 0.9 STOP", 10},
+    {"PUSHIMMF #00000001 STOP", 10},
+    {"PUSHIMMF 0.0 STOP", 10},
+    {"PUSHIMMF -0.0 STOP", 10},
+    {"PUSHIMMF #80000001 STOP", 10},
+    {"PUSHIMMF -2.5 STOP", 10},
+    {"PUSHIMMF #FF7FFFFF STOP", 10},
+    {"PUSHIMMF #41F00001 STOP", 300},
+    {"PUSHIMMF 30.1 STOP", 300},
+    {"PUSHIMMF #4DCCCCCD STOP", 300}, /* 2^32 tenths */
+    {"PUSHIMMF #7F7FFFFF STOP", 300},
+    {"PUSHIMMF #7F800000 STOP", 300}, /* infinities */
+    {"PUSHIMMF #FF800000 STOP", 10},
+    {"PUSHIMMF #00000028 STOP", 10}, /* the bits of INT 40 */
+    {"PUSHIMM 40 PUSHIMM 70 STOP", 40}, /* cell 0, not the top, */
+    {"PUSHIMM 40 LINK PUSHIMM 70 STOP", 40}, /* nor where FBR is */
+    {"PUSHIMM 40 PUSHIMMF #7FC00000 STOP", 40},
+};
+
+static void test_dwells(void) {
+    puts("the ends of a dwell");
+    check("  shortest", 10, SAM_DWELL_SHORTEST);
+    check("  longest", 300, SAM_DWELL_LONGEST);
+    for (size_t i = 0; i < sizeof dwells / sizeof dwells[0]; i++) {
+        for (size_t places = 0; places <= 16; places += 16) {
+            printf("%s, H = %zu\n", dwells[i].source, places);
+            begin(dwells[i].source, 16, places);
+            check("  run", 0, run(100));
+            check_dwell("  dwell", 0, dwells[i].tenths);
+        }
+    }
+}
+
+/* A program, the number that ends its run, and the refusal of the reader there. */
+static const struct { const char *source; uint32_t ending, number; } refused_dwells[] = {
+    {"PUSHIMM 40", 2, 60}, /* off the end, where HALT is 0 */
+    {"", 2, 60},
+    {"PUSHIMM 40 ADD STOP", 3, 60},
+    {"PUSHIMM 40 a: JUMP a", 50, 60},
+    {"PUSHIMMF #7FC00000 PUSHSP ADD STOP", 4, 60},
+    {"STOP", 0, 61},
+    {"PUSHIMM 40 ADDSP -1 STOP", 0, 61}, /* the popped value is there, but no longer live */
+    {"PUSHSP POPSP STOP", 0, 61},
+    {"PUSHSP STOP", 0, 62},
+    {"LINK STOP", 0, 62},
+    {"PUSHIMMPA 0 STOP", 0, 62},
+    {"JSR 1 STOP", 0, 62},
+    {"PUSHSP PUSHIMM 40 STOP", 0, 62},
+    {"PUSHIMMF #7FC00000 STOP", 0, 63},
+    {"PUSHIMMF #7F800001 STOP", 0, 63},
+    {"PUSHIMMF #7FFFFFFF STOP", 0, 63},
+    {"PUSHIMMF #FF800001 STOP", 0, 63},
+    {"PUSHIMMF #FFC00000 STOP", 0, 63},
+    {"PUSHIMMF #FFFFFFFF STOP", 0, 63},
+    {"PUSHIMMF 0.0 PUSHIMMF 0.0 DIVF STOP", 0, 63},
+};
+
+static void test_refused_dwells(void) {
+    for (size_t i = 0; i < sizeof refused_dwells / sizeof refused_dwells[0]; i++) {
+        printf("%s\n", refused_dwells[i].source);
+        begin(refused_dwells[i].source, 16, 0);
+        check("  run", refused_dwells[i].ending, run(100));
+        check_dwell("  dwell", refused_dwells[i].number, 0);
+    }
+}
+
+/* What the reader looks at after 10: HALT, SP and cell 0; then its number and the tenths. */
+static const struct {
+    const char *name;
+    uint64_t halt, sp;
+    uint8_t tag;
+    uint32_t value, number;
+    uint64_t tenths;
+} orders[] = {
+    {"  60 before 61 and 62", 0, 0, SAM_MA, 0x7FC00000, 60, 0},
+    {"  60 before 61 and 63", 0, 0, SAM_FLOAT, 0x7FC00000, 60, 0},
+    {"  60 before 62", 0, 1, SAM_MA, 0x7FC00000, 60, 0},
+    {"  60 before 63", 0, 1, SAM_FLOAT, 0x7FC00000, 60, 0},
+    {"  61 before 62", 1, 0, SAM_MA, 0x7FC00000, 61, 0},
+    {"  61 before 63", 1, 0, SAM_FLOAT, 0x7FC00000, 61, 0},
+    {"  62 before 63", 1, 1, SAM_MA, 0x7FC00000, 62, 0},
+    {"  63", 1, 1, SAM_FLOAT, 0x7FC00000, 63, 0},
+    {"  read", 1, 1, SAM_FLOAT, 0x40200000, 0, 25},
+};
+
+/* Each as it is, and with 10 by a tag above SP. */
+static void test_order_of_dwell(void) {
+    puts("10, then 60, 61, 62 and 63 of a dwell");
+    begin("PUSHIMM 40 STOP", 4, 8);
+    for (size_t i = 0; i < sizeof orders / sizeof orders[0]; i++) {
+        registers[SAM_HALT] = orders[i].halt;
+        registers[SAM_SP] = orders[i].sp;
+        tags[0] = orders[i].tag;
+        bits[0] = orders[i].value;
+        check_dwell(orders[i].name, orders[i].number, orders[i].tenths);
+        tags[3] = 4;
+        check_dwell("  10 before that", 10, 0);
+        tags[3] = SAM_INT;
+    }
+}
+
+/* Only the length of the history and U are judged, as for a step. */
+static void test_dwell_with_any_history(void) {
+    puts("a dwell with a history that a step-back refuses");
+    begin("PUSHIMM 40 STOP", 4, 8);
+    check("  run", 0, run(100));
+    memset(history, 0xFF, 8 * sizeof history[0]);
+    for (uint64_t used = 1; used <= 8; used++) {
+        registers[SAM_U] = used;
+        check("  step-back", 10, step_back());
+        check("  step", 1, step());
+        check_dwell("  dwell", 0, 40);
+    }
+    registers[SAM_U] = 9;
+    check_dwell("  U above H", 10, 0);
+    registers[SAM_U] = 8;
+    for (uint64_t pc = 0; pc <= 2; pc++) {
+        registers[SAM_PC] = pc;
+        check_dwell("  PC anywhere", 0, 40);
+    }
+    registers[SAM_PC] = 3;
+    check_dwell("  PC above the length", 10, 0);
+}
+
+static uint32_t dwell_with(size_t registers_len, size_t tags_len, size_t places, size_t told_len) {
+    return sam_dwell(table, places, length, registers, registers_len, bits, n, tags, tags_len, history, h, told,
+                     told_len);
+}
+
+static void test_lengths_of_dwell(void) {
+    puts("a dwell with told, registers, tags and table of another length");
+    begin("PUSHIMM 40 STOP", 4, 8);
+    check("  run", 0, run(100));
+    mark_told();
+    keep();
+    for (size_t told_len = 0; told_len <= SAM_ASSEMBLE_TOLD + 1; told_len++) {
+        if (told_len == 1) continue;
+        check("  told", 31, dwell_with(SAM_REGISTERS, n, SAM_TABLE_PLACES, told_len));
+        check("  31 before 10", 31, dwell_with(6, n, SAM_TABLE_PLACES, told_len));
+        check("  31 before 10", 31, dwell_with(SAM_REGISTERS, n - 1, 0, told_len));
+    }
+    check_told_marked(0);
+    for (size_t registers_len = 0; registers_len <= SAM_REGISTERS + 1; registers_len++) {
+        if (registers_len == SAM_REGISTERS) continue;
+        mark_told();
+        check("  registers", 10, dwell_with(registers_len, n, SAM_TABLE_PLACES, 1));
+        check("  tenths", 0, told[0]);
+        check_told_marked(1);
+    }
+    mark_told();
+    check("  one tag too few", 10, dwell_with(SAM_REGISTERS, n - 1, SAM_TABLE_PLACES, 1));
+    check("  tenths", 0, told[0]);
+    mark_told();
+    check("  1,023 places", 10, dwell_with(SAM_REGISTERS, n, SAM_TABLE_PLACES - 1, 1));
+    check("  tenths", 0, told[0]);
+    check_kept("  nothing written");
+    check_dwell("  all of the right length", 0, 40);
+}
+
+#define DOORS "PUSHIMM 40 STOP"
+#define TRIAL "PUSHIMM 40 PUSHIMMF 2.5 STOREOFF 0 STOP"
+
+/* The trial's three steps, newest first: STOP, STOREOFF and PUSHIMMF. */
+static void take_trial_back(void) {
+    check("  STOP taken back", 0, step_back());
+    check_cell("  cell 0", 0, SAM_FLOAT, 0x40200000);
+    check_dwell("  not halted", 60, 0);
+    check("  STOREOFF taken back", 0, step_back());
+    check_cell("  cell 0", 0, SAM_INT, 40);
+    check_dwell("  not halted", 60, 0);
+    check("  PUSHIMMF taken back", 0, step_back());
+    check_cell("  cell 0", 0, SAM_INT, 40);
+    check_cell("  cell 1", 1, SAM_INT, 0);
+    check_dwell("  not halted", 60, 0);
+}
+
+/* The machine in use before left the tag of the trial over the bits of 40: a FLOAT near zero, and doors closed. */
+static void test_complaint_at_the_doors(void) {
+    static struct machine first;
+    puts("the complaint at the doors: 40 tenths, a trial of 2.5 seconds, and back");
+    begin(DOORS, 16, 16);
+    check("  run", 0, run(100));
+    check_dwell("  read", 0, 40);
+    keep();
+    first = kept;
+    check("  STOP taken back", 0, step_back());
+    check_dwell("  not halted", 60, 0);
+    check("  assemble the trial", 0, assemble(TRIAL));
+    check("  run the trial", 0, run(100));
+    check("  steps", 3, told[0]);
+    check_cell("  cell 0", 0, SAM_FLOAT, 0x40200000);
+    check_dwell("  read", 0, 25);
+    take_trial_back();
+    check("  assemble the program", 0, assemble(DOORS));
+    check("  run", 0, run(100));
+    check("  steps", 1, told[0]);
+    kept = first;
+    check_kept("  as the first time");
+    check_dwell("  read", 0, 40);
+    tags[0] = SAM_FLOAT;
+    check_dwell("  what the machine before left", 0, 10);
+}
+
 /* ---- told and registers of another length */
 
 static uint32_t run_with(size_t registers_len, size_t told_len) {
@@ -650,6 +904,7 @@ static void broken(const char *name, uint64_t *value, uint64_t wrong) {
     check(name, 10, step());
     check(name, 10, step_back());
     check(name, 10, run(1));
+    check_dwell(name, 10, 0);
     check(name, wrong, *value);
     *value = right;
 }
@@ -672,11 +927,14 @@ static void test_broken(void) {
     broken("  unused place", &table[1023], 1);
     tags[3] = 4;
     check("  tag 4", 10, step());
+    check_dwell("  tag 4", 10, 0);
     tags[3] = SAM_PA, bits[3] = 3;
     check("  PA above length", 10, step());
+    check_dwell("  PA above length", 10, 0);
     tags[3] = SAM_INT, bits[3] = 0;
     history[1] |= 1;
     check("  top record", 10, step_back());
+    check_dwell("  top record", 60, 0);
     history[1] &= ~UINT64_C(1);
     check("  all set right", 0, step_back());
 }
@@ -867,6 +1125,12 @@ int main(void) {
     test_conversions();
     test_refused_conversions();
     test_conversions_back();
+    test_dwells();
+    test_refused_dwells();
+    test_order_of_dwell();
+    test_dwell_with_any_history();
+    test_lengths_of_dwell();
+    test_complaint_at_the_doors();
     test_lengths();
     test_steps();
     test_reset();

@@ -1,7 +1,8 @@
-"""An interpreter of document 01 with requests a, b, d and e of document 02, written from the documents and their
+"""An interpreter of document 01 with requests a, b, d, e and f of document 02, written from the documents and their
 settled readings, to compare the proved one with."""
 
 from .console import cell_line, console
+from .dwell import dwell
 from .image import pack, unpack
 from .machine import Program, Registers, State, reset, run, sound, step, step_back
 from .text import assemble, list_program
@@ -13,6 +14,7 @@ __all__ = [
     "assemble",
     "cell_line",
     "console",
+    "dwell",
     "list_program",
     "pack",
     "reset",
