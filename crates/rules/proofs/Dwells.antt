@@ -75,19 +75,19 @@ int-many b l h = ap held (signed-plus b l) ∙ held-many b h
 -- ---- what is read of a cell
 
 module _ (tag bits : ℕ) where
-  abbrev it : Cell
-  it = record { bits = bits; tag = tag }
+  abbrev theCell : Cell
+  theCell = record { bits = bits; tag = tag }
 
-  pub cell-int : tag ≡ INT → readCell it ≡ Tenths (held (signed bits))
+  pub cell-int : tag ≡ INT → readCell theCell ≡ Tenths (held (signed bits))
   cell-int e = rw (eq-eqb tag INT e, ne-eqb tag FLOAT (λ f. omega (arith, e, f)))
 
-  pub cell-other : (tag ≡ INT → ⊥) → (tag ≡ FLOAT → ⊥) → readCell it ≡ Unread OtherTag
+  pub cell-other : (tag ≡ INT → ⊥) → (tag ≡ FLOAT → ⊥) → readCell theCell ≡ Unread OtherTag
   cell-other d e = rw (ne-eqb tag INT d, ne-eqb tag FLOAT e)
 
-  pub cell-nan : tag ≡ FLOAT → isNaN bits ≡ true → readCell it ≡ Unread NotANumber
+  pub cell-nan : tag ≡ FLOAT → isNaN bits ≡ true → readCell theCell ≡ Unread NotANumber
   cell-nan e n = rw (ne-eqb tag INT (λ f. omega (arith, e, f)), eq-eqb tag FLOAT e, n)
 
-  pub cell-float : tag ≡ FLOAT → isNaN bits ≡ false → readCell it ≡ Tenths (heldSeconds bits)
+  pub cell-float : tag ≡ FLOAT → isNaN bits ≡ false → readCell theCell ≡ Tenths (heldSeconds bits)
   cell-float e n = rw (ne-eqb tag INT (λ f. omega (arith, e, f)), eq-eqb tag FLOAT e, n)
 
 cell-between : (c : Cell) → Between (tenthsOf c)

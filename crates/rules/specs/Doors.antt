@@ -35,8 +35,8 @@ afterRun s number tenths =
     record { read = Dwell.dwell p (a .answer .registers) (a .memory); number = number; tenths = tenths }
 
 -- of a machine of two cells under the empty program, with that SP and HALT
-abbrev with : (sp halt : ℕ) → Memory → (number tenths : ℕ) → DwellRead
-with sp halt m number tenths =
+abbrev machine : (sp halt : ℕ) → Memory → (number tenths : ℕ) → DwellRead
+machine sp halt m number tenths =
     record {
       read = Dwell.dwell (program (replicate maxProgram 0) 0) (record { n = 2; h = 0; pc = 0; sp = sp; fbr = 0; halt = halt; used = 0 }) m;
       number = number;
@@ -45,7 +45,7 @@ with sp halt m number tenths =
 
 -- cell 0 of a halted machine is read as so many tenths, or refused by that number
 abbrev cell : Cell → (number tenths : ℕ) → DwellRead
-cell c = with 1 1 (memory (c .bits ∷ 0 ∷ []) (c .tag ∷ INT ∷ []) [])
+cell c = machine 1 1 (memory (c .bits ∷ 0 ∷ []) (c .tag ∷ INT ∷ []) [])
 
 abbrev tenths : ℤ → ℕ → DwellRead
 tenths z t = cell (int (word z)) 0 t
@@ -118,10 +118,10 @@ dwells =
     ∷ afterRun "PUSHSP" 60 0
     ∷ afterRun "PUSHIMMF #7FC00000" 60 0
     -- "10 as for step", before them all: HALT 2, SP at N, and in a cell that is not read a tag above 3 and a PA above the length
-    ∷ with 0 2 (memory (40 ∷ 0 ∷ []) (INT ∷ INT ∷ []) []) 10 0
-    ∷ with 2 1 (memory (40 ∷ 0 ∷ []) (INT ∷ INT ∷ []) []) 10 0
-    ∷ with 0 0 (memory (40 ∷ 0 ∷ []) (INT ∷ 4 ∷ []) []) 10 0
-    ∷ with 1 1 (memory (0x7FC00000 ∷ 1 ∷ []) (FLOAT ∷ PA ∷ []) []) 10 0
+    ∷ machine 0 2 (memory (40 ∷ 0 ∷ []) (INT ∷ INT ∷ []) []) 10 0
+    ∷ machine 2 1 (memory (40 ∷ 0 ∷ []) (INT ∷ INT ∷ []) []) 10 0
+    ∷ machine 0 0 (memory (40 ∷ 0 ∷ []) (INT ∷ 4 ∷ []) []) 10 0
+    ∷ machine 1 1 (memory (0x7FC00000 ∷ 1 ∷ []) (FLOAT ∷ PA ∷ []) []) 10 0
     ∷ []
 
 abbrev pub reads : DwellRead → Bool
