@@ -1,7 +1,7 @@
 /* The SaM machine for C: every call of the proved library, with numbers and lent memory only.
  *
  * Link target/staticlib/libsam_c.a. Every call gives a number of document 01, with what requests a (24, 33), d (6),
- * e (5, 25, 33, 43) and f (60 to 63) add:
+ * e (5, 25, 33, 43), f (60 to 63) and g (10) add:
  *
  *    0  done, or a run found HALT 1
  *    1  step with HALT 1
@@ -13,7 +13,7 @@
  *    7  new SP would be N or more
  *    8  H above 0 and fewer than (cells written + 1) places free
  *    9  step-back with U = 0
- *   10  broken state or table
+ *   10  broken state or table; a kept number above U, or 0 with U above 0, is a broken state
  *   11  at reset N or H outside the sizes below, or cells and tags of unequal count; at a run a limit above 1,000,000
  *   21  source too long                       26  label twice
  *   22  forbidden byte                        27  label unknown
@@ -72,8 +72,9 @@ enum {
     SAM_DWELL_STACK = 512
 };
 
-/* The registers are a lent slice of seven. Registers of another length are 10 and change nothing. */
-enum { SAM_N, SAM_H_PLACES, SAM_PC, SAM_SP, SAM_FBR, SAM_HALT, SAM_U, SAM_REGISTERS };
+/* The registers are a lent slice of eight. Registers of another length are 10 and change nothing. SAM_KEPT is how many
+ * steps can be taken back: after a reset the steps accepted less the step-backs accepted, and 0 where H is 0. */
+enum { SAM_N, SAM_H_PLACES, SAM_PC, SAM_SP, SAM_FBR, SAM_HALT, SAM_U, SAM_KEPT, SAM_REGISTERS };
 
 /* The tag of a cell. */
 enum { SAM_INT, SAM_FLOAT, SAM_MA, SAM_PA };
@@ -103,7 +104,7 @@ uint32_t sam_unpack(const uint8_t *image, size_t image_len, uint64_t *table, siz
                     size_t told_len);
 
 /* Sets every cell to INT 0, every history place to 0, N and H to the lent counts and the other registers to 0.
- * 11 comes before 10. A refused reset leaves the cells and the history as they were and sets the seven registers to
+ * 11 comes before 10. A refused reset leaves the cells and the history as they were and sets the eight registers to
  * zero. */
 uint32_t sam_reset(const uint64_t *table, size_t places, uint64_t length, uint64_t *registers, size_t registers_len,
                    uint32_t *bits, size_t n, uint8_t *tags, size_t tags_len, uint64_t *history, size_t h);

@@ -13,7 +13,7 @@ use Rattle.rules.specs.Places.{cellTag, cellBits, stepPc, stepSp, stepFbr, step
 use Rattle.rules.specs.Table.{Program, program}
 use Rattle.rules.specs.State.{Memory, sound}
 use Rattle.rules.specs.Step.{unchanged}
-use Rattle.rules.specs.Back.{topPlace, topCells, formedCells, formedStep, formedTop, restored, undone, plainBack, back}
+use Rattle.rules.specs.Back.{topPlace, topCells, formedCells, formedStep, formedTop, restored, registersBack, undone, plainBack, back}
 use Rattle.rules.specs.declared.Registers.{Registers}
 use Rattle.rules.specs.declared.MachineRefusal.the-variants.{NoHistory, Broken}
 use Rattle.rules.specs.declared.Step.the-variants.{Next}
@@ -77,11 +77,11 @@ module _ (p : Program) (r : Registers) (m : Memory) where
           → pc ≡ stepPc (topPlace r m) → sp ≡ stepSp (topPlace r m) → fbr ≡ stepFbr (topPlace r m)
           → bits ≡ restored cellBits lent (m .bits) → tags ≡ restored cellTag lent (m .tags)
           → history ≡ splice (m .history) (r .used - 1 - x) (replicate (x + 1) 0)
-          → stepped (Next (record { n = r .n; h = r .h; pc = pc; sp = sp; fbr = fbr; halt = 0; used = r .used - 1 - x })) bits tags history
+          → stepped (Next (registersBack pc sp fbr x r)) bits tags history
           ≡ plainBack p r m
       back-undone pc sp fbr bits tags history k ep es ef eb et eh =
           (λ i.
-          stepped (Next (record { n = r .n; h = r .h; pc = ep i; sp = es i; fbr = ef i; halt = 0; used = r .used - 1 - ex i }))
+          stepped (Next (registersBack (ep i) (es i) (ef i) (ex i) r))
           ((eb ∙ ap (λ (l : List ℕ). restored cellBits l (m .bits)) lent-cells) i)
           ((et ∙ ap (λ (l : List ℕ). restored cellTag l (m .tags)) lent-cells) i)
           ((eh ∙ ap (λ (n : ℕ). splice (m .history) (r .used - 1 - n) (replicate (n + 1) 0)) ex) i))

@@ -125,6 +125,7 @@ fn plain_back(
     let pc = places::step_pc(top);
     let sp = places::step_sp(top);
     let fbr = places::step_fbr(top);
+    let kept = r.kept - 1;
     Step::Next(Registers {
         n: r.n,
         h: r.h,
@@ -133,6 +134,7 @@ fn plain_back(
         fbr,
         halt: 0,
         used: from,
+        kept,
     })
 }
 

@@ -11,7 +11,7 @@ use borrow.Author.Tests.{lt-ltb, le-ltb, leb-true}
 use lib.Seq.{getD-take, getD-drop}
 use Rattle.rules.specs.Lists.{part, splice}
 use Rattle.rules.specs.Places.{cellPlace}
-use Rattle.rules.specs.Commit.{block, cellPlaces, usedAfter, historyAfter, roomIn, roomFor}
+use Rattle.rules.specs.Commit.{block, cellPlaces, grown, historyAfter, roomIn, roomFor}
 use Rattle.rules.specs.declared.Registers.{Registers}
 use Rattle.rules.specs.declared.Effect.{Effect}
 use Rattle.rules.proofs.Sound.{length-places}
@@ -76,11 +76,11 @@ record-ends h l cells u n s e f g k =
 -- ---- with H = 0 nothing is kept, with H above 0 the record
 
 module _ (h u n : ℕ) where
-  pub used-none : h ≡ 0 → u ≡ usedAfter (ltb 0 h) u n
-  used-none e = ap (λ (t : Bool). usedAfter t u n) (sym (le-ltb 0 h (omega (arith, e))))
+  pub grown-none : h ≡ 0 → u ≡ grown (ltb 0 h) u n
+  grown-none e = ap (λ (t : Bool). grown t u n) (sym (le-ltb 0 h (omega (arith, e))))
 
-  pub used-more : (h ≡ 0 → ⊥) → u + n ≡ usedAfter (ltb 0 h) u n
-  used-more e = ap (λ (t : Bool). usedAfter t u n) (sym (lt-ltb 0 h (omega (arith, e))))
+  pub grown-more : (h ≡ 0 → ⊥) → u + n ≡ grown (ltb 0 h) u n
+  grown-more e = ap (λ (t : Bool). grown t u n) (sym (lt-ltb 0 h (omega (arith, e))))
 
 module _ (h : ℕ) (l : List ℕ) (u : ℕ) (added : List ℕ) where
   pub history-none : h ≡ 0 → l ≡ historyAfter (ltb 0 h) l u added

@@ -1,7 +1,7 @@
 -- What carrying out comes to: a decision in each of its cases, a plan by its shape, and the memory after a jump and after one written cell.
 -- Assumes nothing.
 use Prim.Native.Nat.{ℕ, _+_, _-_, _≤_, _<_, zero-le}
-use mathlib.Core.Path.{_≡_, refl, sym, ap, _∙_}
+use mathlib.Core.Path.{_≡_, refl, sym, ap, ap₂, _∙_}
 use mathlib.Core.Bool.{Bool, true, false}
 use mathlib.Core.List.{List, [], _∷_, _++_}
 use native.Mathlib.Omega.{arith}
@@ -11,7 +11,7 @@ use borrow.Author.Tests.{lt-ltb, le-leb, lt-leb}
 use Rattle.rules.specs.Lists.{part, splice}
 use Rattle.rules.specs.Places.{cellPlace, stepPlace}
 use Rattle.rules.specs.State.{Memory, memory, cellAt}
-use Rattle.rules.specs.Commit.{cellPlaces, recordOf, keeps, historyAfter, roomIn, roomFor, registersOf, memoryOf}
+use Rattle.rules.specs.Commit.{cellPlaces, recordOf, keeps, historyAfter, roomIn, roomFor, registersWith, registersOf, memoryOf}
 use Rattle.rules.specs.Step.{fitted, carried}
 use Rattle.rules.specs.declared.Cell.{Cell}
 use Rattle.rules.specs.declared.Registers.{Registers}
@@ -28,7 +28,7 @@ use Rattle.machine.specs.declared.plans.Plan.{Plan}
 use Rattle.machine.specs.declared.plans.Rare.{Rare}
 use Rattle.machine.specs.declared.plans.Rare.the-variants.{Swap, Fill, Frame, Link, Halt}
 use Rattle.machine.specs.declared.plans.Shape.{Shape}
-use Rattle.machine.proofs.Blocks.{put-none, put-one, history-none, history-more, used-none, used-more}
+use Rattle.machine.proofs.Blocks.{put-none, put-one, history-none, history-more, grown-none, grown-more}
 use Rattle.machine.proofs.Steps.{fitted-high, fitted-full, fitted-fits}
 
 -- ---- a decision: refused, by itself or by 7 or 8, or done
@@ -116,30 +116,12 @@ module _ (r : Registers) (d : Plan) (bits tags history : List ℕ) (hb : d .at <
 
 -- ---- the registers after
 
-module _ (r : Registers) (e : Effect) (same : e .fbr ≡ r .fbr) (going : e .halt ≡ 0) where
-  pub after-none : r .h ≡ 0 → record { n = r .n; h = r .h; pc = e .pc; sp = e .sp; fbr = r .fbr; halt = 0; used = r .used } ≡ registersOf r e
-  after-none h i =
-      record {
-        n = r .n;
-        h = r .h;
-        pc = e .pc;
-        sp = e .sp;
-        fbr = sym same i;
-        halt = sym going i;
-        used = used-none (r .h) (r .used) (e .count + 1) h i;
-      }
+module _ (r : Registers) (e : Effect) where
+  pub after-none : r .h ≡ 0 → registersWith r e (r .used) (r .kept) ≡ registersOf r e
+  after-none h = ap₂ (registersWith r e) (grown-none (r .h) (r .used) (e .count + 1) h) (grown-none (r .h) (r .kept) 1 h)
 
-  pub after-kept : (r .h ≡ 0 → ⊥) → record { n = r .n; h = r .h; pc = e .pc; sp = e .sp; fbr = r .fbr; halt = 0; used = r .used + (e .count + 1) } ≡ registersOf r e
-  after-kept h i =
-      record {
-        n = r .n;
-        h = r .h;
-        pc = e .pc;
-        sp = e .sp;
-        fbr = sym same i;
-        halt = sym going i;
-        used = used-more (r .h) (r .used) (e .count + 1) h i;
-      }
+  pub after-kept : (r .h ≡ 0 → ⊥) → registersWith r e (r .used + (e .count + 1)) (r .kept + 1) ≡ registersOf r e
+  after-kept h = ap₂ (registersWith r e) (grown-more (r .h) (r .used) (e .count + 1) h) (grown-more (r .h) (r .kept) 1 h)
 
 -- ---- a rarer effect sets SP as it is planned
 

@@ -126,6 +126,7 @@ module _ (p : Program) (r : Registers) (m : Memory) where
             tagged = f .tags;
             places = f .history;
             used = f .used;
+            kept = f .kept;
             block = λ h. fair-place p r m f below place e place-fits q h .fits;
           }
 

@@ -15,6 +15,7 @@ pub record Fits (r : Registers) (e : Effect) (m : Memory) : Type 0 where
   pub tagged : length (m .tags) ≡ r .n
   pub places : length (m .history) ≡ r .h
   pub used : r .used ≤ r .h
+  pub kept : r .kept ≤ r .used
   pub block : e .at + e .count ≤ r .n
   pub room : roomFor r e ≡ true
 
@@ -23,4 +24,5 @@ pub record Open (r : Registers) (e : Effect) (m : Memory) : Type 0 where
   pub tagged : length (m .tags) ≡ r .n
   pub places : length (m .history) ≡ r .h
   pub used : r .used ≤ r .h
+  pub kept : r .kept ≤ r .used
   pub block : e .sp < r .n → e .at + e .count ≤ r .n

@@ -8,7 +8,7 @@ ghost use lib.ListN.{length, getD, set};
 ghost use Rattle.rules.specs.Lists.{splice};
 ghost use Rattle.rules.specs.Places.{cellPlace, stepPlace};
 ghost use Rattle.rules.specs.State.{memory, cellAt};
-ghost use Rattle.rules.specs.Commit.{roomFor};
+ghost use Rattle.rules.specs.Commit.{registersWith, roomFor};
 ghost use Rattle.rules.specs.Step.{fitted, carried};
 ghost use Rattle.rules.specs.declared.Step.the-variants.{Next};
 ghost use Rattle.rules.specs.declared.Decision.the-variants.{Does};
@@ -34,9 +34,9 @@ fn is_high(r: Registers, sp: usize) -> bool
     r.n <= sp
 }
 
-// PC, SP and U are set.
-fn moved_to(r: Registers, pc: usize, sp: usize, used: usize) -> Turn
-    ensures { λ a. ⌜ answerOf a ≡ Next (record { n = r .n; h = r .h; pc = pc; sp = sp; fbr = r .fbr; halt = 0; used = used }) ⌝ }
+// PC, SP, U and the kept number are set.
+fn moved_to(r: Registers, pc: usize, sp: usize, used: usize, kept: usize) -> Turn
+    ensures { λ a. ⌜ answerOf a ≡ Next (registersWith r (jumps r pc sp) used kept) ⌝ }
 {
     turn::made(Registers {
         n: r.n,
@@ -46,12 +46,13 @@ fn moved_to(r: Registers, pc: usize, sp: usize, used: usize) -> Turn
         fbr: r.fbr,
         halt: 0,
         used,
+        kept,
     })
 }
 
 // PC and SP are set, and no cell is written.
 fn jump(r: Registers, pc: usize, sp: usize, history: &mut [u64]) -> Turn
-    requires { ⌜ (r .used ≤ r .h) × (length (now history) ≡ r .h) ⌝ }
+    requires { ⌜ (r .used ≤ r .h) × (length (now history) ≡ r .h) × (r .kept ≤ r .used) ⌝ }
     ensures { λ a. ⌜ ((bits tags : List ℕ) → stepped (answerOf a) bits tags (now (history .exit)) ≡ carried r (memory bits tags (now (history .entry))) (fitted r (Does (jumps r pc sp)))) ⌝ }
 {
     let used = r.used;
@@ -59,13 +60,13 @@ fn jump(r: Registers, pc: usize, sp: usize, history: &mut [u64]) -> Turn
         return turn::refused(MachineRefusal::StackFull, r);
     }
     if r.h == 0 {
-        return moved_to(r, pc, sp, used);
+        return moved_to(r, pc, sp, used, r.kept);
     }
     if r.h - used < 1 {
         return turn::refused(MachineRefusal::HistoryFull, r);
     }
     history[used] = places::step_place(r.pc, r.sp, r.fbr, 0);
-    moved_to(r, pc, sp, used + 1)
+    moved_to(r, pc, sp, used + 1, r.kept + 1)
 }
 
 // Adds the record of a step that writes one cell.
@@ -80,15 +81,22 @@ fn keep_cell(r: Registers, at: usize, bits: &[u32], tags: &[u8], history: &mut [
 }
 
 // Writes the planned cell.
-fn put_cell(r: Registers, d: Plan, used: usize, bits: &mut [u32], tags: &mut [u8]) -> Turn
+fn put_cell(
+    r: Registers,
+    d: Plan,
+    used: usize,
+    kept: usize,
+    bits: &mut [u32],
+    tags: &mut [u8],
+) -> Turn
     requires { ⌜ (d .at < length (now bits)) × (length (now tags) ≡ length (now bits)) ⌝ }
-    ensures { λ a. ⌜ answerOf a ≡ Next (record { n = r .n; h = r .h; pc = d .pc; sp = d .sp; fbr = r .fbr; halt = 0; used = used }) ⌝ }
+    ensures { λ a. ⌜ answerOf a ≡ Next (registersWith r (writes r d) used kept) ⌝ }
     ensures { λ _. ⌜ (now (bits .exit) ≡ set (now (bits .entry)) (d .at) (d .bits)) × (now (tags .exit) ≡ set (now (tags .entry)) (d .at) (d .tag)) ⌝ }
 {
     let at = d.at;
     bits[at] = d.bits;
     tags[at] = d.tag;
-    moved_to(r, d.pc, d.sp, used)
+    moved_to(r, d.pc, d.sp, used, kept)
 }
 
 // PC and SP are set, and one cell is written.
@@ -101,13 +109,13 @@ fn write(r: Registers, d: Plan, bits: &mut [u32], tags: &mut [u8], history: &mut
         return turn::refused(MachineRefusal::StackFull, r);
     }
     if r.h == 0 {
-        return put_cell(r, d, used, bits, tags);
+        return put_cell(r, d, used, r.kept, bits, tags);
     }
     if r.h - used < 2 {
         return turn::refused(MachineRefusal::HistoryFull, r);
     }
     keep_cell(r, d.at, bits, tags, history);
-    put_cell(r, d, used + 2, bits, tags)
+    put_cell(r, d, used + 2, r.kept + 1, bits, tags)
 }
 
 // Whether the history, where there is one, has room for the effect's record.

@@ -7,7 +7,7 @@ ghost use Prim.Native.Nat.{_+_, _≤_};
 ghost use lib.ListN.{length, replicate};
 ghost use Rattle.rules.specs.Lists.{splice};
 ghost use Rattle.rules.specs.State.{memory};
-ghost use Rattle.rules.specs.Commit.{block, recordOf, keeps, usedAfter, historyAfter, registersOf, memoryOf};
+ghost use Rattle.rules.specs.Commit.{block, recordOf, keeps, historyAfter, registersWith, registersOf, memoryOf};
 ghost use Rattle.machine.specs.Fits.{Fits};
 
 // Sets `count` cells, from `from` on, to INT 0.
@@ -66,18 +66,34 @@ fn add_record(e: Effect, r: Registers, bits: &[u32], tags: &[u8], history: &mut 
     history[last] = places::step_place(r.pc, r.sp, r.fbr, count);
 }
 
-// Keeps what the effect overwrites, where there is a history; answers the places used.
-fn keep(e: Effect, r: Registers, bits: &[u32], tags: &[u8], history: &mut [u64]) -> usize
+// The registers after the effect, with these places used and so many steps kept.
+fn registers_with(r: Registers, e: Effect, used: usize, kept: usize) -> Registers
+    ensures { λ a. ⌜ a ≡ registersWith r e used kept ⌝ }
+{
+    Registers {
+        n: r.n,
+        h: r.h,
+        pc: e.pc,
+        sp: e.sp,
+        fbr: e.fbr,
+        halt: e.halt,
+        used,
+        kept,
+    }
+}
+
+// Keeps what the effect overwrites, where there is a history; answers the registers after it.
+fn keep(e: Effect, r: Registers, bits: &[u32], tags: &[u8], history: &mut [u64]) -> Registers
     requires { ⌜ Fits r e (memory (now bits) (now tags) (now history)) ⌝ }
-    ensures { λ u. ⌜ u ≡ usedAfter (keeps r) (r .used) (e .count + 1) ⌝ }
+    ensures { λ a. ⌜ a ≡ registersOf r e ⌝ }
     ensures { λ _. ⌜ now (history .exit) ≡ historyAfter (keeps r) (now (history .entry)) (r .used) (recordOf r (memory (now (bits .entry)) (now (tags .entry)) (now (history .entry))) e) ⌝ }
 {
     let used = r.used;
     if r.h == 0 {
-        return used;
+        return registers_with(r, e, used, r.kept);
     }
     add_record(e, r, bits, tags, history);
-    used + (e.count + 1)
+    registers_with(r, e, used + (e.count + 1), r.kept + 1)
 }
 
 // Carries out an effect that fits: keeps what it overwrites, writes its cells, and answers the new registers.
@@ -92,15 +108,7 @@ pub(crate) fn commit(
     ensures { λ a. ⌜ a ≡ registersOf r e ⌝ }
     ensures { λ _. ⌜ memory (now (bits .exit)) (now (tags .exit)) (now (history .exit)) ≡ memoryOf r (memory (now (bits .entry)) (now (tags .entry)) (now (history .entry))) e ⌝ }
 {
-    let used = keep(e, r, bits, tags, history);
+    let left = keep(e, r, bits, tags, history);
     put(e, bits, tags);
-    Registers {
-        n: r.n,
-        h: r.h,
-        pc: e.pc,
-        sp: e.sp,
-        fbr: e.fbr,
-        halt: e.halt,
-        used,
-    }
+    left
 }

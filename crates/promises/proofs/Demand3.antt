@@ -1,14 +1,15 @@
 -- Demand 3: "After any series of steps, runs and step-backs from a reset, with S steps and B step-backs accepted, everything (registers, cells,
--- tags, history) equals a fresh reset and S minus B steps. With history room, a step-back is refused exactly when S equals B." For every
--- program, every lent memory that a reset accepts, of any N and H, H = 0 among them, and every series, refused requests among them:
--- `demand3`. What it says is specs/Series.antt, over the definitions that the contracts of the calls cite. Assumes nothing.
+-- tags, history) equals a fresh reset and S minus B steps. With history room, a step-back is refused exactly when S equals B." And request g:
+-- the kept number is the number of step places in use, and S minus B, or 0 with H = 0. For every program, every lent memory that a reset accepts,
+-- of any N and H, H = 0 among them, and every series, refused requests among them: `demand3`. What it says is specs/Series.antt, over the
+-- definitions that the contracts of the calls cite. Assumes nothing.
 use Prim.Native.Nat.{ℕ, zero, suc, _+_, _-_}
 use mathlib.Core.Path.{_≡_, refl, sym, ap, _∙_, subst}
 use mathlib.Core.Bool.{Bool, true, false, _||_, cond, or-true}
 use mathlib.Core.List.{List}
 use native.Mathlib.Nat.{pos-of-ne-zero}
 use native.Mathlib.Omega.{arith}
-use lib.Dec.{eqb}
+use lib.Dec.{ltb, eqb}
 use borrow.Author.Tests.{eqb-true, eqb-false, eq-eqb, ne-eqb}
 use Rattle.rules.specs.Table.{Program}
 use Rattle.rules.specs.State.{Memory}
@@ -23,6 +24,7 @@ use Rattle.promises.proofs.Runs.{standing, afterSteps}
 use Rattle.promises.proofs.Demand3Trail.{State, Good, Trail, back-empty, back-none, good-trail, steps-trail, back-trail}
 use Rattle.promises.proofs.Demand3Reset.{Accepted, left, reset-accepted, good-reset, reset-empty}
 use Rattle.promises.proofs.Demand3Kept.{stateOf, Kept, keep-series}
+use Rattle.promises.proofs.Demand3Number.{in-use-trail, kept-trail}
 
 -- the number of a step-back that is refused for want of a history, or done
 abbrev answered : Bool → ℕ
@@ -50,6 +52,12 @@ module _ (p : Program) (s₀ : State) (good₀ : Good p s₀) (empty : s₀ .reg
       subst (λ (n : ℕ). afterSteps p n (s₀ .registers) (s₀ .memory) ≡ standing n (s .registers) (s .memory)) far
       (steps-trail p s₀ good₀ (w .far) (stateOf s) (w .trail))
 
+  -- its kept number: the step places in use, and S minus B or 0
+  kept-kept : (s : Session) → Kept p s₀ s → s .registers .kept ≡ cond (ltb 0 (s .registers .h)) (s .made - s .undone) 0
+  kept-kept s w =
+      let far : w .far ≡ s .made - s .undone = omega (arith, w .count) in
+      kept-trail p s₀ good₀ empty (w .far) (stateOf s) (w .trail) ∙ ap (λ (n : ℕ). cond (ltb 0 (s .registers .h)) n 0) far
+
 pub demand3 : (p : Program) (m : Memory) → Reset.reset p m .answer .begun ≡ Ready → (qs : List Request) → Promised p m (series p qs (fresh p m))
 demand3 p m ready qs =
     let a : Accepted p m = reset-accepted p m ready in
@@ -65,4 +73,6 @@ demand3 p m ready qs =
       memory = ap (λ (t : Session). t .memory) (sym same);
       steps = ap (λ (t : Session). t .made) same;
       refused = refused-when p s₀ good₀ empty s (w .far) (w .trail) (w .count) (eqb (s .registers .h) 0) refl;
+      in-use = in-use-trail p s₀ good₀ empty (w .far) (stateOf s) (w .trail);
+      kept = kept-kept p s₀ good₀ empty s w;
     }

@@ -75,6 +75,8 @@ good-begun p m a =
             pc = zero-le;
             halt = zero-le;
             used = zero-le;
+            kept = zero-le;
+            none = λ q. refl;
             cells = λ k. rw (zeros-at (length (m .bits)) k, zeros-at (length (m .tags)) k) zero-cell;
           });
       narrow = λ k. rw (zeros-at (length (m .bits)) k) (lit< tt);

@@ -5,6 +5,7 @@ pub mod Runs
 pub mod Demand3Trail
 pub mod Demand3Reset
 pub mod Demand3Kept
+pub mod Demand3Number
 pub mod Demand3
 pub mod ListingRound
 pub mod Listing
@@ -20,3 +21,5 @@ pub mod Addresses
 -- Request f: the dwell that the door board reads.
 pub mod Tenths
 pub mod Dwells
+-- Request g: how many steps can be taken back.
+pub mod TakesBack

@@ -1,14 +1,14 @@
 -- Demand 3: "After any series of steps, runs and step-backs from a reset, with S steps and B step-backs accepted, everything (registers, cells,
--- tags, history) equals a fresh reset and S minus B steps. With history room, a step-back is refused exactly when S equals B." Here is what that
--- says; proofs/Demand3.antt shows it. Assumes nothing.
-use Prim.Native.Nat.{ℕ, _+_, _-_, _≤_}
+-- tags, history) equals a fresh reset and S minus B steps. With history room, a step-back is refused exactly when S equals B." And request g: "How
+-- many steps can I take back?" Here is what they say; proofs/Demand3.antt and proofs/TakesBack.antt show it. Assumes nothing.
+use Prim.Native.Nat.{ℕ, _+_, _-_, _≤_, min}
 use mathlib.Core.Path.{_≡_}
 use mathlib.Core.Bool.{_||_, cond}
 use mathlib.Core.List.{List, [], _∷_}
 use lib.ListN.{replicate}
-use lib.Dec.{eqb}
+use lib.Dec.{ltb, eqb}
 use Rattle.rules.specs.Table.{Program}
-use Rattle.rules.specs.State.{Memory}
+use Rattle.rules.specs.State.{Memory, stepsInUse}
 use Rattle.rules.specs.Numbers.{machineNumber, numberOfStep, registersAfter}
 use Rattle.rules.specs.Step.{Stepped}
 use Rattle.rules.specs.Step as Step
@@ -101,3 +101,10 @@ pub record Promised (p : Program) (m : Memory) (s : Session) : Type 0 where
   -- a step-back is refused, with 9, exactly when S equals B, or H = 0; else it is done, with 0
   pub refused : numberOfStep (Back.back p (s .registers) (s .memory) .answer)
       ≡ cond (eqb (s .registers .h) 0 || eqb (s .made) (s .undone)) (machineNumber NoHistory) 0
+  -- request g: the kept number "equals the number of step places in use in every state reached"; "With H above 0 it equals S minus B; with H = 0 it is 0."
+  pub in-use : s .registers .kept ≡ stepsInUse (s .registers) (s .memory)
+  pub kept : s .registers .kept ≡ cond (ltb 0 (s .registers .h)) (s .made - s .undone) 0
+
+-- request g: "How many steps can I take back?" Of so many step-backs one after the other, the kept number is accepted, or all of them where they are fewer
+abbrev pub TakesBack : Program → Session → Type 0
+TakesBack p s = (k : ℕ) → series p (replicate k back) s .undone ≡ s .undone + min k (s .registers .kept)

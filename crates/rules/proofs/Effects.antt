@@ -9,7 +9,7 @@ use native.Mathlib.Omega.{arith}
 use lib.Dec.{leb, ltb, eqb, lit≤}
 use lib.IntN.{ℤ, pos, negsuc, _+ℤ_}
 use lib.ListN.{length, getD}
-use borrow.Author.Tests.{ltb-true, leb-true, eqb-true, eqb-false, not-true}
+use borrow.Author.Tests.{ltb-true, leb-true, eqb-true, eqb-false, eq-eqb, not-true}
 use Rattle.rules.specs.Lists.{every}
 use Rattle.rules.specs.Tags.{INT, FLOAT, MA, PA, int, pa, has}
 use Rattle.rules.specs.Words.{signed, holds}
@@ -31,7 +31,7 @@ use Rattle.rules.specs.declared.Decision.{Decision}
 use Rattle.rules.specs.declared.Decision.the-variants.{Does, Refuses}
 use Rattle.rules.specs.declared.MachineRefusal.{MachineRefusal}
 use Rattle.rules.specs.declared.MachineRefusal.the-variants.{TooFewValues}
-use Rattle.rules.proofs.Tests.{either, and-left, and-right, every-at}
+use Rattle.rules.proofs.Tests.{either, and-left, and-right, or-where, every-at}
 use Rattle.rules.proofs.Table.{place-sound}
 use Rattle.rules.proofs.Fair.{FairCell, FairCells, Sound, Going, Fair}
 
@@ -42,12 +42,8 @@ pub fair-cell : (count t b : ℕ) → soundCell count t b ≡ true → FairCell 
 fair-cell count t b h =
     record {
       tag = leb-true t 3 (and-left (leb t 3) (not (eqb t PA) || leb b count) h);
-      pa = λ q. go (eqb t PA) refl (and-right (leb t 3) (not (eqb t PA) || leb b count) h) q;
+      pa = λ q. leb-true b count (or-where (eqb t PA) (leb b count) (and-right (leb t 3) (not (eqb t PA) || leb b count) h) (eq-eqb t PA q));
     }
-  where
-    go : (x : Bool) → eqb t PA ≡ x → (not x || leb b count) ≡ true → t ≡ PA → b ≤ count
-    go true e h q = leb-true b count h
-    go false e h q = absurd (eqb-false t PA e q)
 
 -- INT, FLOAT and MA hold any bits
 pub fair-plain : (count t b : ℕ) → t ≤ 2 → FairCell count (record { bits = b; tag = t })
@@ -80,7 +76,9 @@ sound-facts p r m h =
       pc = leb-true _ _ (at 9);
       halt = leb-true _ _ (at 10);
       used = leb-true _ _ (at 11);
-      cells = fair-cells (p .count) (m .tags) (m .bits) (tags ∙ sym bits) (at 12);
+      kept = leb-true _ _ (at 12);
+      none = λ q. eqb-true _ _ (or-where _ _ (at 13) (eq-eqb _ _ q));
+      cells = fair-cells (p .count) (m .tags) (m .bits) (tags ∙ sym bits) (at 14);
     }
 
 -- ---- a decision that does something passed its demands
@@ -196,15 +194,11 @@ within-target Pattern count v q h = absurd (false≢true q)
 within-target Offset count v q h = absurd (false≢true q)
 within-target Target count v q h = leb-true v count h
 
-or-right : (a b : Bool) → (not a || b) ≡ true → a ≡ true → b ≡ true
-or-right true b h q = h
-or-right false b h q = absurd (false≢true q)
-
 place-aims : (count place : ℕ) → soundPlace count place ≡ true → aims (actionOf (codeOf place)) ≡ true → operandOf place ≤ count
 unfolding soundPlace kindOf actionOf aimed
 place-aims count place h q =
     within-target (kindOf (codeOf place)) count (operandOf place)
-    (or-right (aims (actionOf (codeOf place))) (isTarget (kindOf (codeOf place))) (row-aimed (codeOf place)) q)
+    (or-where (aims (actionOf (codeOf place))) (isTarget (kindOf (codeOf place))) (row-aimed (codeOf place)) q)
     (and-right (ltb (codeOf place) codes) (within (kindOf (codeOf place)) count (operandOf place)) h)
 
 -- ---- the effects, each fair where its new SP is below N

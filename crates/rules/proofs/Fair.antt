@@ -39,6 +39,8 @@ pub record Sound (p : Program) (r : Registers) (m : Memory) : Type 0 where
   pub pc : r .pc ≤ p .count
   pub halt : r .halt ≤ 1
   pub used : r .used ≤ r .h
+  pub kept : r .kept ≤ r .used
+  pub none : r .kept ≡ 0 → r .used ≡ 0
   pub cells : FairCells (p .count) (m .tags) (m .bits)
 
 -- what is so where a step is accepted with the effect e

@@ -14,7 +14,7 @@ use Rattle.rules.specs.Tags.{PA}
 use Rattle.rules.specs.Places.{cellPlace, stepPlace, mark, cellAddress, cellTag, cellBits, cellZeros, stepPc, stepSp, stepFbr, stepCount, stepZeros}
 use Rattle.rules.specs.Table.{Program}
 use Rattle.rules.specs.State.{Memory, sound}
-use Rattle.rules.specs.Commit.{block, cellPlaces, cellsKept, recordOf, keeps, usedAfter, historyAfter, registersOf, memoryOf, roomIn, roomFor}
+use Rattle.rules.specs.Commit.{block, cellPlaces, cellsKept, recordOf, keeps, grown, historyAfter, registersWith, registersOf, memoryOf, roomIn, roomFor}
 use Rattle.rules.specs.Step.{judged, unchanged}
 use Rattle.rules.specs.Back.{topPlace, formedCell, formedCells, formedStep, formedTop, restored, undoneAt, undone, plainBack, back}
 use Rattle.rules.specs.declared.Registers.{Registers}
@@ -103,7 +103,7 @@ cells-formed n count low a (t ∷ ts) (b ∷ bs) hl hn few c =
     let hb : b < 2 ^ 32 = c zero .bits in
     let ea : cellAddress (cellPlace a t b) ≡ a = cellAddress-of a t b ha ht hb in
     ap₂ _&&_
-    (cell-formed n count low (cellPlace a t b) (cellMark-of a t b ha ht hb) (cellZeros-of a t b ha ht hb) (omega arith) (omega arith)
+    (cell-formed n count low (cellPlace a t b) (cellMark-of a t b) (cellZeros-of a t b ha ht hb) (omega arith) (omega arith)
     (λ q. subst (λ (x : ℕ). x ≤ count) (sym (cellBits-of a t b ha ht hb)) (c zero .pa (sym (cellTag-of a t b ha ht hb) ∙ q))))
     (cells-formed n count (cellAddress (cellPlace a t b) + 1) (suc a) ts bs (omega arith) (omega arith) few (λ k. c (suc k)))
 
@@ -131,8 +131,7 @@ module _ (h : List ℕ) (u n : ℕ) (cs : List ℕ) (q : ℕ) (lc : length cs �
 -- ---- the registers and the memory after a step that keeps a record
 
 abbrev registersKept : Registers → Effect → Registers
-registersKept r e =
-    record { n = r .n; h = r .h; pc = e .pc; sp = e .sp; fbr = e .fbr; halt = e .halt; used = r .used + (e .count + 1) }
+registersKept r e = registersWith r e (r .used + (e .count + 1)) (r .kept + 1)
 
 abbrev memoryKept : Registers → Memory → Effect → Memory
 memoryKept r m e =
@@ -183,6 +182,9 @@ module _ (p : Program) (r : Registers) (m : Memory) (e : Effect) (s : Sound p r 
   from-is : r .used + (e .count + 1) - 1 - e .count ≡ r .used
   from-is = omega arith
 
+  one-less : r .kept + 1 - 1 ≡ r .kept
+  one-less = omega arith
+
   cells-are : part (r .used + (e .count + 1) - 1 - e .count) (e .count) (memoryKept r m e .history) ≡ cellsKept m e
   cells-are =
       ap (λ (k : ℕ). part k (e .count) (memoryKept r m e .history)) from-is
@@ -206,7 +208,7 @@ module _ (p : Program) (r : Registers) (m : Memory) (e : Effect) (s : Sound p r 
       let top : ℕ = topPlace (registersKept r e) (memoryKept r m e) in
       ap₂ _&&_
       (step-formed (r .n) (p .count) (r .used + (e .count + 1)) top
-      (ap mark top-is ∙ stepMark-of (r .pc) (r .sp) (r .fbr) (e .count) hp hs hf hc)
+      (ap mark top-is ∙ stepMark-of (r .pc) (r .sp) (r .fbr) (e .count))
       (ap stepZeros top-is ∙ stepZeros-of (r .pc) (r .sp) (r .fbr) (e .count) hp hs hf hc)
       (omega (arith, pc-is)) (omega (arith, sp-is, s .sp)) (omega (arith, fbr-is, s .fbr)) (omega (arith, count-is)))
       (ap (formedCells (r .n) (p .count) 0)
@@ -249,7 +251,9 @@ module _ (p : Program) (r : Registers) (m : Memory) (e : Effect) (s : Sound p r 
   undone-kept running blank =
       (λ i. undoneAt (pc-is i) (sp-is i) (fbr-is i) (count-is i) (registersKept r e) (memoryKept r m e))
       ∙ (λ i. record {
-        answer = Next (record { n = r .n; h = r .h; pc = r .pc; sp = r .sp; fbr = r .fbr; halt = sym running i; used = from-is i });
+        answer =
+            Next
+            (record { n = r .n; h = r .h; pc = r .pc; sp = r .sp; fbr = r .fbr; halt = sym running i; used = from-is i; kept = one-less i });
         memory = record {
           bits = (ap (λ (l : List ℕ). restored cellBits l (memoryKept r m e .bits)) cells-are ∙ bits-back) i;
           tags = (ap (λ (l : List ℕ). restored cellTag l (memoryKept r m e .tags)) cells-are ∙ tags-back) i;
@@ -290,7 +294,7 @@ inverse p r m e h w blank some q =
 
 -- ---- the unused places are zero again
 module _ (u n h : ℕ) (l added : List ℕ) (low : u ≤ h) (ll : length l ≡ h) (la : length added ≡ n) (blank : drop u l ≡ replicate (h - u) 0) where
-  blank-after : (b : Bool) → roomIn b (h - u) n ≡ true → drop (usedAfter b u n) (historyAfter b l u added) ≡ replicate (h - usedAfter b u n) 0
+  blank-after : (b : Bool) → roomIn b (h - u) n ≡ true → drop (grown b u n) (historyAfter b l u added) ≡ replicate (h - grown b u n) 0
   blank-after true q =
       let room : n ≤ h - u = leb-true n (h - u) q in
       let left : h - u - n ≡ h - (u + n) = omega arith in

@@ -76,6 +76,13 @@ pub stepPlace-low : (pc sp fbr k : ℕ)
 unfolding stepPlace
 stepPlace-low pc sp fbr k = fields6 pc sp fbr k
 
+-- their marks, so that the one kind is never taken for the other
+pub cellMark-of : (a t b : ℕ) → mark (cellPlace a t b) ≡ 0
+cellMark-of a t b = rw (cellPlace-low a t b, mark-is) (omega arith)
+
+pub stepMark-of : (pc sp fbr k : ℕ) → mark (stepPlace pc sp fbr k) ≡ 1
+stepMark-of pc sp fbr k = rw (stepPlace-low pc sp fbr k, mark-is) (omega arith)
+
 module _ (a t b : ℕ) (ha : a < 2 ^ 10) (ht : t < 2 ^ 2) (hb : b < 2 ^ 32) where
   pub cellPlace-is : cellPlace a t b ≡ a * 2 ^ 53 + t * 2 ^ 51 + b * 2 ^ 19
   cellPlace-is = cellPlace-low a t b ∙ omega arith
@@ -88,9 +95,6 @@ module _ (a t b : ℕ) (ha : a < 2 ^ 10) (ht : t < 2 ^ 2) (hb : b < 2 ^ 32) wher
 
   pub cellBits-of : cellBits (cellPlace a t b) ≡ b
   cellBits-of = rw (cellPlace-is, cellBits-is) (omega arith)
-
-  pub cellMark-of : mark (cellPlace a t b) ≡ 0
-  cellMark-of = rw (cellPlace-is, mark-is) (omega arith)
 
   pub cellZeros-of : cellZeros (cellPlace a t b) ≡ 0
   cellZeros-of = rw (cellPlace-is, cellZeros-is) (omega arith)
@@ -110,9 +114,6 @@ module _ (pc sp fbr k : ℕ) (hp : pc < 2 ^ 11) (hs : sp < 2 ^ 10) (hf : fbr < 2
 
   pub stepCount-of : stepCount (stepPlace pc sp fbr k) ≡ k
   stepCount-of = rw (stepPlace-is, stepCount-is) (omega arith)
-
-  pub stepMark-of : mark (stepPlace pc sp fbr k) ≡ 1
-  stepMark-of = rw (stepPlace-is, mark-is) (omega arith)
 
   pub stepZeros-of : stepZeros (stepPlace pc sp fbr k) ≡ 0
   stepZeros-of = rw (stepPlace-is, stepZeros-is) (omega arith)

@@ -16,7 +16,7 @@ use Rattle.rules.specs.Instructions.{Action, stop, pushInt, pushFloat, p
 use Rattle.rules.specs.Table.{Program, codeOf, operandOf}
 use Rattle.rules.specs.State.{Memory, memory, cellAt, soundCell, soundCells, sound}
 use Rattle.rules.specs.Decide.{demand, onValues, decide}
-use Rattle.rules.specs.Commit.{block, cellPlaces, cellsKept, recordOf, keeps, usedAfter, historyAfter, registersOf, memoryOf, roomIn, roomFor}
+use Rattle.rules.specs.Commit.{block, cellPlaces, cellsKept, recordOf, keeps, grown, historyAfter, registersOf, memoryOf, roomIn, roomFor}
 use Rattle.rules.specs.Step.{decideAt, fitted, judged, carried, plainStep, step}
 use Rattle.rules.specs.declared.Cell.{Cell}
 use Rattle.rules.specs.declared.Registers.{Registers}
@@ -26,6 +26,7 @@ use Rattle.rules.specs.declared.Decision.the-variants.{Does, Refuses}
 use Rattle.rules.specs.declared.MachineRefusal.the-variants.{Broken, AlreadyHalted, AtEnd}
 use Rattle.rules.specs.declared.Step.the-variants.{Next}
 use Rattle.rules.proofs.Zeros.{zeros-at}
+use Rattle.rules.proofs.Tests.{where-or}
 use Rattle.rules.proofs.Splice.{length-part, length-splice}
 use Rattle.rules.proofs.Fair.{FairCell, FairCells, Sound, Fair}
 use Rattle.rules.proofs.Effects.{fair-plain, sound-facts, judged-going, fair-judged}
@@ -95,11 +96,7 @@ module _ (m : Memory) (e : Effect) (ht : e .at + e .count ≤ length (m .tags)) 
 
 -- not "a PA cell above length"
 pub pa-sound : (t b count : ℕ) → (t ≡ PA → b ≤ count) → (not (eqb t PA) || leb b count) ≡ true
-pa-sound t b count h = go (eqb t PA) refl
-  where
-    go : (x : Bool) → eqb t PA ≡ x → (not x || leb b count) ≡ true
-    go true q = le-leb b count (h (eqb-true t PA q))
-    go false q = refl
+pa-sound t b count h = where-or (eqb t PA) (leb b count) (λ q. le-leb b count (h (eqb-true t PA q)))
 
 pub cell-sound : (count : ℕ) (c : Cell) → FairCell count c → soundCell count (c .tag) (c .bits) ≡ true
 cell-sound count c f = ap₂ _&&_ (le-leb (c .tag) 3 (f .tag)) (pa-sound (c .tag) (c .bits) count (f .pa))
@@ -125,12 +122,14 @@ facts-sound p r m s =
       le-leb _ _ (s .pc),
       le-leb _ _ (s .halt),
       le-leb _ _ (s .used),
+      le-leb _ _ (s .kept),
+      where-or (eqb (r .kept) 0) (eqb (r .used) 0) (λ q. eq-eqb _ _ (s .none (eqb-true _ _ q))),
       cells-sound (p .count) (m .tags) (m .bits) (s .cells),
     )
 
 -- ---- the history after, with a record or without
 module _ (u n h : ℕ) (low : u ≤ h) where
-  used-after : (b : Bool) → roomIn b (h - u) n ≡ true → usedAfter b u n ≤ h
+  used-after : (b : Bool) → roomIn b (h - u) n ≡ true → grown b u n ≤ h
   used-after true q = omega (arith, leb-true n (h - u) q)
   used-after false q = low
 
@@ -140,6 +139,16 @@ module _ (u n h : ℕ) (low : u ≤ h) where
       let room : n ≤ h - u = leb-true n (h - u) q in
       length-splice l u added (omega arith) ∙ e
   history-after false l added e a q = e
+
+-- ---- the kept number after: a record is one step more, and at least one place
+module _ (k u n : ℕ) (some : 1 ≤ n) where
+  kept-after : (b : Bool) → k ≤ u → grown b k 1 ≤ grown b u n
+  kept-after true h = omega arith
+  kept-after false h = h
+
+  none-after : (b : Bool) → (k ≡ 0 → u ≡ 0) → grown b k 1 ≡ 0 → grown b u n ≡ 0
+  none-after true h q = absurd (let z : ⊥ = omega (arith, q) in z)
+  none-after false h q = h q
 
 -- ---- a fair effect leaves a sound state sound
 
@@ -163,6 +172,8 @@ sound-commit p r m e s f room =
       pc = f .pc;
       halt = f .halt;
       used = used-after (r .used) (e .count + 1) (r .h) (s .used) (keeps r) room;
+      kept = kept-after (r .kept) (r .used) (e .count + 1) (omega arith) (keeps r) (s .kept);
+      none = none-after (r .kept) (r .used) (e .count + 1) (omega arith) (keeps r) (s .none);
       cells =
           each-splice (λ t b. FairCell (p .count) (record { bits = b; tag = t })) (fair-plain (p .count) 0 0 zero-le)
           (e .at) (e .count) (m .tags) (m .bits) (block (e .count) (e .first .tag) (e .second .tag)) (block (e .count) (e .first .bits) (e .second .bits))

@@ -30,6 +30,11 @@ module _ (l : List ℕ) (i : ℕ) (ws : List ℕ) (h : i + length ws ≤ length 
   pub drop-splice : drop i (splice l i ws) ≡ ws ++ drop (i + length ws) l
   drop-splice = drop-at (take i l) (ws ++ drop (i + length ws) l) i (length-take-le i l (omega arith))
 
+  pub through-splice : (n : ℕ) → length ws ≡ n → take (i + n) (splice l i ws) ≡ take i l ++ ws
+  through-splice n e =
+      ap (take (i + n)) (sym (append-assoc (take i l) ws (drop (i + length ws) l)))
+      ∙ take-at (take i l ++ ws) (drop (i + length ws) l) (i + n) (length-append (take i l) ws ∙ ap₂ _+_ (length-take-le i l (omega arith)) e)
+
   pub rest-splice : (n : ℕ) → length ws ≡ n → drop (i + n) (splice l i ws) ≡ drop (i + n) l
   rest-splice n e =
       sym (drop-drop n i (splice l i ws)) ∙ ap (drop n) drop-splice ∙ drop-at ws (drop (i + length ws) l) n e

@@ -2,7 +2,7 @@
 -- numbers below a bound. Assumes nothing.
 use Prim.Native.Nat.{ℕ, zero, suc, _+_, _≤_, _<_}
 use mathlib.Core.Path.{_≡_, refl, ap, _∙_}
-use mathlib.Core.Bool.{Bool, true, false, cond, _&&_, _||_, false≢true, true≢false, and-false}
+use mathlib.Core.Bool.{Bool, true, false, cond, not, _&&_, _||_, false≢true, true≢false, and-false}
 use mathlib.Core.List.{List, [], _∷_}
 use native.Mathlib.Nat.{not-suc-le-zero, le-of-suc-le-suc}
 use native.Mathlib.Numerals.{add-one}
@@ -45,6 +45,15 @@ or-left false b h = refl
 pub or-right : (a b : Bool) → (a || b) ≡ false → b ≡ false
 or-right true b h = absurd (true≢false h)
 or-right false b h = h
+
+-- a test that is asked for only where another holds
+pub or-where : (a b : Bool) → (not a || b) ≡ true → a ≡ true → b ≡ true
+or-where true b h q = h
+or-where false b h q = absurd (false≢true q)
+
+pub where-or : (a b : Bool) → (a ≡ true → b ≡ true) → (not a || b) ≡ true
+where-or true b h = h refl
+where-or false b h = refl
 
 -- ---- every test of a list
 

@@ -38,7 +38,7 @@ afterRun s number tenths =
 abbrev machine : (sp halt : ℕ) → Memory → (number tenths : ℕ) → DwellRead
 machine sp halt m number tenths =
     record {
-      read = Dwell.dwell (program (replicate maxProgram 0) 0) (record { n = 2; h = 0; pc = 0; sp = sp; fbr = 0; halt = halt; used = 0 }) m;
+      read = Dwell.dwell (program (replicate maxProgram 0) 0) (record { n = 2; h = 0; pc = 0; sp = sp; fbr = 0; halt = halt; used = 0; kept = 0 }) m;
       number = number;
       tenths = tenths;
     }

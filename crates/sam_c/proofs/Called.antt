@@ -14,7 +14,7 @@ use Rattle.rules.specs.declared.Step.{Step}
 use Rattle.rules.specs.declared.Run.{Run}
 use Rattle.rules.specs.declared.Dwell.{Dwell}
 use Rattle.state.specs.Outcomes.{started, stepped}
-use Rattle.sam_c.specs.Calls.{Filled, Moved, filled, moved, ofLength, listOf, registersOf, resetMoved, stepMoved, Walked, walked, runWalked, Answered, answered, dwellAnswered}
+use Rattle.sam_c.specs.Calls.{Filled, Moved, filled, moved, ofLength, registerCount, listOf, registersOf, resetMoved, stepMoved, Walked, walked, runWalked, Answered, answered, dwellAnswered}
 use Rattle.sam_c.proofs.Lent.{of-length}
 
 -- a call that fills an output, whose answer is a′ and which leaves out′
@@ -24,43 +24,43 @@ module _ {A : Type 0} (number : A → ℕ) (tells : A → List ℕ) (n : ℕ) (l
   filled-by ea eo et ek =
       (λ i. filled ((ek ∙ ap number ea) i) ((et ∙ ap tells ea) i) (eo i)) ∙ sym (of-length n l _ _ h)
 
-module _ (l : List ℕ) (h : length l ≡ 7) (instead : Moved) where
+module _ (l : List ℕ) (h : length l ≡ registerCount) (instead : Moved) where
   pub reset-called : {k : ℕ} {a : Reset} {s : Started} {registers bits tags history : List ℕ} → started a bits tags history ≡ s
       → registers ≡ listOf (a .registers) → k ≡ numberOfReset (a .begun)
-      → moved k registers (memory bits tags history) ≡ ofLength 7 l (resetMoved s) instead
+      → moved k registers (memory bits tags history) ≡ ofLength registerCount l (resetMoved s) instead
   reset-called {bits = bits} {tags = tags} {history = history} es el ek =
-      (λ i. moved (ek i) (el i) (memory bits tags history)) ∙ ap resetMoved es ∙ sym (of-length 7 l _ _ h)
+      (λ i. moved (ek i) (el i) (memory bits tags history)) ∙ ap resetMoved es ∙ sym (of-length registerCount l _ _ h)
 
   -- a step or a step-back f, which answers a
   pub step-called : (f : Registers → Stepped) {k : ℕ} {r next : Registers} {a : Step} {registers bits tags history : List ℕ} → r ≡ registersOf l
       → stepped a bits tags history ≡ f r → next ≡ registersAfter r a → registers ≡ listOf next → k ≡ numberOfStep a
-      → moved k registers (memory bits tags history) ≡ ofLength 7 l (stepMoved (registersOf l) (f (registersOf l))) instead
+      → moved k registers (memory bits tags history) ≡ ofLength registerCount l (stepMoved (registersOf l) (f (registersOf l))) instead
   step-called f {r = r} {bits = bits} {tags = tags} {history = history} er es en el ek =
       (λ i. moved (ek i) ((el ∙ ap listOf en) i) (memory bits tags history))
       ∙ ap (stepMoved r) es
       ∙ ap (λ (q : Registers). stepMoved q (f q)) er
-      ∙ sym (of-length 7 l _ _ h)
+      ∙ sym (of-length registerCount l _ _ h)
 
 -- a run f, which answers a and leaves m
-module _ (t : List ℕ) (ht : length t ≡ 1) (l : List ℕ) (h : length l ≡ 7) (other instead : Walked) where
+module _ (t : List ℕ) (ht : length t ≡ 1) (l : List ℕ) (h : length l ≡ registerCount) (other instead : Walked) where
   pub run-called : (f : Registers → Ran) {k : ℕ} {r : Registers} {a : Run} {told registers : List ℕ} {m : Memory} → r ≡ registersOf l
       → a ≡ f r .answer → m ≡ f r .memory → registers ≡ listOf (a .registers) → told ≡ a .steps ∷ [] → k ≡ numberOfEnding (a .ending)
-      → walked told k registers m ≡ ofLength 1 t (ofLength 7 l (runWalked (f (registersOf l))) other) instead
+      → walked told k registers m ≡ ofLength 1 t (ofLength registerCount l (runWalked (f (registersOf l))) other) instead
   run-called f {r = r} er ea em el et ek =
       (λ i. walked (et i) (ek i) (el i) (em i))
       ∙ ap (λ (a : Run). walked (a .steps ∷ []) (numberOfEnding (a .ending)) (listOf (a .registers)) (f r .memory)) ea
       ∙ ap (λ (q : Registers). runWalked (f q)) er
-      ∙ sym (of-length 7 l _ _ h)
+      ∙ sym (of-length registerCount l _ _ h)
       ∙ sym (of-length 1 t _ _ ht)
 
 -- a reading f of a machine, which answers d
-module _ (t : List ℕ) (ht : length t ≡ 1) (l : List ℕ) (h : length l ≡ 7) (other instead : Answered) where
+module _ (t : List ℕ) (ht : length t ≡ 1) (l : List ℕ) (h : length l ≡ registerCount) (other instead : Answered) where
   pub dwell-called : (f : Registers → Dwell) {k : ℕ} {r : Registers} {d : Dwell} {tenths : ℕ} {told : List ℕ} → r ≡ registersOf l → d ≡ f r
       → told ≡ tenths ∷ [] → tenths ≡ tenthsOfDwell d → k ≡ numberOfDwell d
-      → answered k told ≡ ofLength 1 t (ofLength 7 l (dwellAnswered (f (registersOf l))) other) instead
+      → answered k told ≡ ofLength 1 t (ofLength registerCount l (dwellAnswered (f (registersOf l))) other) instead
   dwell-called f er ed et es ek =
       (λ i. answered (ek i) ((et ∙ ap (λ (x : ℕ). x ∷ []) es) i))
       ∙ ap dwellAnswered ed
       ∙ ap (λ (q : Registers). dwellAnswered (f q)) er
-      ∙ sym (of-length 7 l _ _ h)
+      ∙ sym (of-length registerCount l _ _ h)
       ∙ sym (of-length 1 t _ _ ht)

@@ -9,7 +9,7 @@ use lib.ListN.{length, getD, drop, set}
 use lib.Seq.{drop-cons, drop-length}
 use borrow.Author.Tests.{eq-eqb, ne-eqb}
 use Rattle.rules.specs.declared.Registers.{Registers}
-use Rattle.sam_c.specs.Calls.{ofLength, listOf, registersOf}
+use Rattle.sam_c.specs.Calls.{ofLength, registerCount, listOf, registersOf}
 
 module _ {A : Type 0} (n : ℕ) (l : List ℕ) (call instead : A) where
   pub of-length : length l ≡ n → ofLength n l call instead ≡ call
@@ -31,16 +31,16 @@ spelled-all (suc k) i l h =
     let below : suc i ≤ length l = omega (arith, add-suc i k) in
     ap (λ (t : List ℕ). getD l i 0 ∷ t) (spelled-all k (suc i) l (omega (arith, add-suc i k, suc-add i k))) ∙ sym (drop-cons l i 0 below)
 
--- a list of seven is what its registers are as a list, so a refused call that writes them again changes nothing
-pub seven : (l : List ℕ) → length l ≡ 7 → listOf (registersOf l) ≡ l
-seven l h = spelled-all 7 0 l (sym h)
+-- a list of so many is what its registers are as a list, so a refused call that writes them again changes nothing
+pub listed : (l : List ℕ) → length l ≡ registerCount → listOf (registersOf l) ≡ l
+listed l h = spelled-all registerCount 0 l (sym h)
 
-pub set-seven : (r : Registers) (l : List ℕ) → length l ≡ 7
-    → set (set (set (set (set (set (set l 0 (r .n)) 1 (r .h)) 2 (r .pc)) 3 (r .sp)) 4 (r .fbr)) 5 (r .halt)) 6 (r .used) ≡ listOf r
-set-seven r l h =
-    ap
-    (λ (t : List ℕ). set (set (set (set (set (set (set t 0 (r .n)) 1 (r .h)) 2 (r .pc)) 3 (r .sp)) 4 (r .fbr)) 5 (r .halt)) 6 (r .used))
-    (sym (seven l h))
+abbrev pub setAll : Registers → List ℕ → List ℕ
+setAll r l =
+    set (set (set (set (set (set (set (set l 0 (r .n)) 1 (r .h)) 2 (r .pc)) 3 (r .sp)) 4 (r .fbr)) 5 (r .halt)) 6 (r .used)) 7 (r .kept)
+
+pub set-all : (r : Registers) (l : List ℕ) → length l ≡ registerCount → setAll r l ≡ listOf r
+set-all r l h = ap (setAll r) (sym (listed l h))
 
 pub set-one : (a : ℕ) (l : List ℕ) → length l ≡ 1 → set l 0 a ≡ a ∷ []
 set-one a l h = ap (λ (t : List ℕ). set t 0 a) (sym (spelled-all 1 0 l (sym h)))

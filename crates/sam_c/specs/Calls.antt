@@ -73,11 +73,11 @@ broken = machineNumber Broken
 
 -- how many registers there are
 abbrev pub registerCount : ℕ
-registerCount = 7
+registerCount = 8
 
 -- the registers as a list, and a list of so many as registers
 abbrev pub listOf : Registers → List ℕ
-listOf r = r .n ∷ r .h ∷ r .pc ∷ r .sp ∷ r .fbr ∷ r .halt ∷ r .used ∷ []
+listOf r = r .n ∷ r .h ∷ r .pc ∷ r .sp ∷ r .fbr ∷ r .halt ∷ r .used ∷ r .kept ∷ []
 
 abbrev pub registersOf : List ℕ → Registers
 registersOf l =
@@ -89,6 +89,7 @@ registersOf l =
       fbr = getD l 4 0;
       halt = getD l 5 0;
       used = getD l 6 0;
+      kept = getD l 7 0;
     }
 
 -- ---- the calls that fill an output

@@ -40,7 +40,7 @@ module _ (p : Program) (r : Registers) (m : Memory) where
   pub held : sound p r m ≡ true → Held r m
   held h =
       let s : Sound p r m = sound-facts p r m h in
-      record { cells = s .bits; tagged = s .tags; places = s .history; used = s .used }
+      record { cells = s .bits; tagged = s .tags; places = s .history; used = s .used; none = s .none }
 
   -- the early returns of the judgement, and its end
   module _ (made : soundTable p ≡ true) where

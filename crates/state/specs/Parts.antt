@@ -1,7 +1,7 @@
 -- Two parts of a state's tests, and the tests of a reset by lengths: what one function of this crate judges each. Assumes nothing.
 use Prim.Native.Nat.{ℕ, _≤_}
 use mathlib.Core.Path.{_≡_}
-use mathlib.Core.Bool.{Bool}
+use mathlib.Core.Bool.{Bool, not, _||_}
 use mathlib.Core.List.{List, [], _∷_}
 use lib.ListN.{length}
 use lib.Dec.{leb, ltb, eqb}
@@ -20,10 +20,17 @@ keptSizes r bits tags history =
     ∷ eqb history (r .h)
     ∷ []
 
--- "SP or FBR not below N; PC above length; HALT not 0 or 1; U above H"
+-- "SP or FBR not below N; PC above length; HALT not 0 or 1; U above H", and "the kept number is above U, or is 0 with U above 0" (02 g)
 abbrev pub registersWithin : ℕ → Registers → List Bool
 registersWithin count r =
-    ltb (r .sp) (r .n) ∷ ltb (r .fbr) (r .n) ∷ leb (r .pc) count ∷ leb (r .halt) 1 ∷ leb (r .used) (r .h) ∷ []
+    ltb (r .sp) (r .n)
+    ∷ ltb (r .fbr) (r .n)
+    ∷ leb (r .pc) count
+    ∷ leb (r .halt) 1
+    ∷ leb (r .used) (r .h)
+    ∷ leb (r .kept) (r .used)
+    ∷ (not (eqb (r .kept) 0) || eqb (r .used) 0)
+    ∷ []
 
 -- "N or H outside "Sizes", or cells and tags of unequal count", by the lengths of bits, tags and history
 abbrev pub startSizes : ℕ → ℕ → ℕ → List Bool
@@ -35,3 +42,4 @@ pub record Held (r : Registers) (m : Memory) : Type 0 where
   pub tagged : length (m .tags) ≡ r .n
   pub places : length (m .history) ≡ r .h
   pub used : r .used ≤ r .h
+  pub none : r .kept ≡ 0 → r .used ≡ 0

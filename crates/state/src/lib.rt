@@ -36,7 +36,7 @@ fn has_kept_sizes(r: Registers, bits: usize, tags: usize, history: usize) -> boo
     history == r.h
 }
 
-// Whether SP, FBR, PC, HALT and U are within their ranges, in a program of `count` instructions.
+// Whether SP, FBR, PC, HALT, U and the kept number are within their ranges, in a program of `count` instructions.
 fn has_registers_within(r: Registers, count: usize) -> bool
     ensures { λ a. ⌜ a ≡ every (registersWithin count r) ⌝ }
 {
@@ -52,7 +52,16 @@ fn has_registers_within(r: Registers, count: usize) -> bool
     if 1 < r.halt {
         return false;
     }
-    r.used <= r.h
+    if r.h < r.used {
+        return false;
+    }
+    if r.used < r.kept {
+        return false;
+    }
+    if r.kept != 0 {
+        return true;
+    }
+    r.used == 0
 }
 
 // Whether a cell may stand in a sound state: its tag is at most PA, the last, and a PA is at most the program's length.
@@ -164,6 +173,7 @@ fn zero_registers(n: usize, h: usize) -> Registers
         fbr: 0,
         halt: 0,
         used: 0,
+        kept: 0,
     }
 }
 

@@ -1,6 +1,6 @@
 -- `back::plain_back` meets its contract, case by case. Assumes nothing.
 use Prim.Native.Nat.{ℕ, _-_, _<_}
-use mathlib.Core.Path.{sym, _∙_, subst}
+use mathlib.Core.Path.{_≡_, sym, _∙_, subst}
 use mathlib.Core.List.{List, []}
 use native.Mathlib.Omega.{arith}
 use borrow.Author.Needs.{needs}
@@ -119,6 +119,14 @@ step-sp-requires c κs = search needs
 step-fbr-requires : tie.Need-step-fbr-requires
 step-fbr-requires c κs = search needs
 
+sub-kept : tie.Need-sub-kept
+sub-kept c =
+    let a = c .before .before .before .before .before .before .before .before .before .before .before .before .before .before .before .before .before .before .before .before .before .before .before .before .before .before .before .before .before .args in
+    let held = c .before .before .before .before .before .before .before .before .before .before .before .before .before .before .before .before .before .before .before .before .before .before .before .before .before .before .before .before .before .pre in
+    let some = c .before .before .before .before .before .before .before .before .before .before .before .before .before .before .before .before .before .before .before .before .before .before .before .before .before .if1 .left in
+    let kept : a .r .kept ≡ 0 → ⊥ = λ q. some (held .none q) in
+    omega (arith, kept)
+
 same-length-2 : tie.Need-same-length-2
 same-length-2 c = search needs
 
@@ -130,17 +138,17 @@ same-length-4 c = search needs
 
 returns-4 : tie.Need-returns-4
 returns-4 c =
-    let a = c .before .before .before .before .before .before .before .before .before .before .before .before .before .before .before .before .before .before .before .before .before .before .before .before .before .before .before .before .args in
-    let held = c .before .before .before .before .before .before .before .before .before .before .before .before .before .before .before .before .before .before .before .before .before .before .before .before .before .before .before .before .pre in
-    let x = c .before .before .before .before .before .before .before .before .before .before .before .before .before .before .before .before .before .before .before .before .step-count in
-    let some = c .before .before .before .before .before .before .before .before .before .before .before .before .before .before .before .before .before .before .before .before .before .before .before .before .if1 .left in
-    let ok = sym (c .before .before .before .before .before .before .before .before .before .before .before .before .before .before .before .before .before .before .before .before .before .before .is-formed-step .ensures) ∙ not-false _ (c .before .before .before .before .before .before .before .before .before .before .before .before .before .before .before .before .before .before .before .before .before .if2 .left) in
+    let a = c .before .before .before .before .before .before .before .before .before .before .before .before .before .before .before .before .before .before .before .before .before .before .before .before .before .before .before .before .before .args in
+    let held = c .before .before .before .before .before .before .before .before .before .before .before .before .before .before .before .before .before .before .before .before .before .before .before .before .before .before .before .before .before .pre in
+    let x = c .before .before .before .before .before .before .before .before .before .before .before .before .before .before .before .before .before .before .before .before .before .step-count in
+    let some = c .before .before .before .before .before .before .before .before .before .before .before .before .before .before .before .before .before .before .before .before .before .before .before .before .before .if1 .left in
+    let ok = sym (c .before .before .before .before .before .before .before .before .before .before .before .before .before .before .before .before .before .before .before .before .before .before .before .is-formed-step .ensures) ∙ not-false _ (c .before .before .before .before .before .before .before .before .before .before .before .before .before .before .before .before .before .before .before .before .before .before .if2 .left) in
     back-undone (program [] (a .count)) (a .r) (memory (a .bits .now) (a .tags .now) (a .history .now)) some (x .result) (x .ensures) ok _ _ _ _ _ _
-    (sym (c .before .before .before .before .before .before .before .before .before .before .before .before .before .before .before .before .before .are-formed-cells .ensures) ∙ not-false _ (c .before .before .before .before .before .before .before .before .before .before .before .before .before .before .before .before .if3 .left)) (c .before .before .step-pc .ensures) (c .before .step-sp .ensures) (c .step-fbr .ensures)
-    (c .before .before .before .before .before .before .before .before .before .before .before .restore .ensures .0) (c .before .before .before .before .before .before .before .before .before .before .before .restore .ensures .1)
+    (sym (c .before .before .before .before .before .before .before .before .before .before .before .before .before .before .before .before .before .before .are-formed-cells .ensures) ∙ not-false _ (c .before .before .before .before .before .before .before .before .before .before .before .before .before .before .before .before .before .if3 .left)) (c .before .before .before .step-pc .ensures) (c .before .before .step-sp .ensures) (c .before .step-fbr .ensures)
+    (c .before .before .before .before .before .before .before .before .before .before .before .before .restore .ensures .0) (c .before .before .before .before .before .before .before .before .before .before .before .before .restore .ensures .1)
     (zeroed (a .r .used) (x .result) (a .history .now) _
     (within-used (program [] (a .count)) (a .r) (memory (a .bits .now) (a .tags .now) (a .history .now)) some (x .result) (x .ensures) ok)
-    (omega (arith, held .places, held .used)) (c .before .before .before .before .before .clear .ensures))
+    (omega (arith, held .places, held .used)) (c .before .before .before .before .before .before .clear .ensures))
 
 pub plain-back-spec : {M : Type 1} → statement M
 plain-back-spec =
@@ -174,6 +182,7 @@ plain-back-spec =
     step-pc-requires
     step-sp-requires
     step-fbr-requires
+    sub-kept
     same-length-2
     same-length-3
     same-length-4

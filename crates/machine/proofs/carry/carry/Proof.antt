@@ -26,7 +26,7 @@ jump-requires : tie.Need-jump-requires
 jump-requires c κs =
     let a = c .before .before .before .before .before .before .args in
     let o = c .before .before .before .before .before .before .pre (jumps (a .r) (a .d .pc) (a .d .sp)) (planned-as (a .r) (memory (a .bits .now) (a .tags .now) (a .history .now)) (a .d) Jump (c .before .enum-told2 .given .1)) in
-    (o .used, o .places)
+    (o .used, o .places, o .kept)
 
 enum-told-3 : tie.Need-enum-told-3
 enum-told-3 c = search needs

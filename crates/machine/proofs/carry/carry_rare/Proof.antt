@@ -74,6 +74,7 @@ commit-requires c κs =
       tagged = o .tagged;
       places = o .places;
       used = o .used;
+      kept = o .kept;
       block = o .block low;
       room = (ap (roomFor (a .r)) (sym (c .before .before .before .before .before .rare-effect .ensures)) ∙ sym (c .before .before .before .before .has-room .ensures) ∙ not-false _ (c .before .before .before .if2 .left));
     } in

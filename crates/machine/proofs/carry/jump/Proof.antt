@@ -2,7 +2,7 @@
 use borrow.Author.Tests.{leb-true, leb-false}
 use Prim.Native.Nat.{ℕ, _+_, _≤_}
 use lib.ListN.{length, set}
-use mathlib.Core.Path.{refl, sym, ap, _∙_}
+use mathlib.Core.Path.{sym, ap, _∙_}
 use native.Mathlib.Omega.{arith}
 use Rattle.rules.specs.State.{memory}
 use Rattle.machine.specs.Plan.{jumps}
@@ -29,7 +29,7 @@ moved-to-requires c κs = search needs
 returns-2 : tie.Need-returns-2
 returns-2 c bits tags =
     let a = c .before .before .before .before .before .before .args in
-    carried-does (a .r) (memory bits tags (a .history .now)) _ (jumps (a .r) (a .pc) (a .sp)) _ _ (c .moved-to .ensures) (leb-false _ _ (sym (c .before .before .before .before .is-high .ensures) ∙ c .before .before .before .if1 .left)) (sym (room-none (a .r) (jumps (a .r) (a .pc) (a .sp)) (c .before .if2 .taken))) (after-none (a .r) (jumps (a .r) (a .pc) (a .sp)) refl refl (c .before .if2 .taken)) (jump-none (a .r) (a .pc) (a .sp) bits tags (a .history .now) (c .before .if2 .taken))
+    carried-does (a .r) (memory bits tags (a .history .now)) _ (jumps (a .r) (a .pc) (a .sp)) _ _ (c .moved-to .ensures) (leb-false _ _ (sym (c .before .before .before .before .is-high .ensures) ∙ c .before .before .before .if1 .left)) (sym (room-none (a .r) (jumps (a .r) (a .pc) (a .sp)) (c .before .if2 .taken))) (after-none (a .r) (jumps (a .r) (a .pc) (a .sp)) (c .before .if2 .taken)) (jump-none (a .r) (a .pc) (a .sp) bits tags (a .history .now) (c .before .if2 .taken))
 
 sub-if3 : tie.Need-sub-if3
 sub-if3 c = search needs
@@ -54,6 +54,9 @@ slice-write-history c = search needs
 add-moved-to : tie.Need-add-moved-to
 add-moved-to c = search needs
 
+add-moved-to-2 : tie.Need-add-moved-to-2
+add-moved-to-2 c = search needs
+
 moved-to-requires-2 : tie.Need-moved-to-requires-2
 moved-to-requires-2 c κs = search needs
 
@@ -62,11 +65,11 @@ same-length c = search needs
 
 returns-4 : tie.Need-returns-4
 returns-4 c bits tags =
-    let a = c .before .before .before .before .before .before .before .before .before .args in
-    let some = c .before .before .before .before .if2 .left in
-    let room : a .r .used + 1 ≤ length (a .history .now) = omega (arith, c .before .before .before .before .before .before .before .before .before .pre .0, c .before .before .before .before .before .before .before .before .before .pre .1, c .before .before .if3 .left) in
-    carried-does (a .r) (memory bits tags (a .history .now)) _ (jumps (a .r) (a .pc) (a .sp)) _ _ (c .moved-to2 .ensures) (leb-false _ _ (sym (c .before .before .before .before .before .before .before .is-high .ensures) ∙ c .before .before .before .before .before .before .if1 .left)) (room-left (a .r) (jumps (a .r) (a .pc) (a .sp)) some (c .before .before .if3 .left)) (after-kept (a .r) (jumps (a .r) (a .pc) (a .sp)) refl refl some)
-    (ap (λ (s : ℕ). memory bits tags (set (a .history .now) (a .r .used) s)) (c .before .step-place .ensures) ∙ jump-kept (a .r) (a .pc) (a .sp) bits tags (a .history .now) some room)
+    let a = c .before .before .before .before .before .before .before .before .before .before .args in
+    let some = c .before .before .before .before .before .if2 .left in
+    let room : a .r .used + 1 ≤ length (a .history .now) = omega (arith, c .before .before .before .before .before .before .before .before .before .before .pre .0, c .before .before .before .before .before .before .before .before .before .before .pre .1, c .before .before .before .if3 .left) in
+    carried-does (a .r) (memory bits tags (a .history .now)) _ (jumps (a .r) (a .pc) (a .sp)) _ _ (c .moved-to2 .ensures) (leb-false _ _ (sym (c .before .before .before .before .before .before .before .before .is-high .ensures) ∙ c .before .before .before .before .before .before .before .if1 .left)) (room-left (a .r) (jumps (a .r) (a .pc) (a .sp)) some (c .before .before .before .if3 .left)) (after-kept (a .r) (jumps (a .r) (a .pc) (a .sp)) some)
+    (ap (λ (s : ℕ). memory bits tags (set (a .history .now) (a .r .used) s)) (c .before .before .step-place .ensures) ∙ jump-kept (a .r) (a .pc) (a .sp) bits tags (a .history .now) some room)
 
 pub jump-spec : {M : Type 1} → statement M
 jump-spec =
@@ -84,6 +87,7 @@ jump-spec =
     mul-history
     slice-write-history
     add-moved-to
+    add-moved-to-2
     moved-to-requires-2
     same-length
     returns-4)

@@ -46,7 +46,7 @@ returns-2 c =
     let hb : a .d .at < length (a .bits .now) = omega (arith, low, o .cells) in
     let ht : a .d .at < length (a .tags .now) = omega (arith, low, o .tagged) in
     let put = c .before .before .before .before .put-cell .ensures in
-    carried-does (a .r) (memory (a .bits .now) (a .tags .now) (a .history .now)) _ (writes (a .r) (a .d)) _ _ (put .0) (leb-false _ _ (sym (c .before .before .before .before .before .before .before .before .before .before .is-high .ensures) ∙ c .before .before .before .before .before .before .before .before .before .if1 .left)) (sym (room-none (a .r) (writes (a .r) (a .d)) (c .before .before .before .before .before .before .before .if2 .taken))) (after-none (a .r) (writes (a .r) (a .d)) refl refl (c .before .before .before .before .before .before .before .if2 .taken))
+    carried-does (a .r) (memory (a .bits .now) (a .tags .now) (a .history .now)) _ (writes (a .r) (a .d)) _ _ (put .0) (leb-false _ _ (sym (c .before .before .before .before .before .before .before .before .before .before .is-high .ensures) ∙ c .before .before .before .before .before .before .before .before .before .if1 .left)) (sym (room-none (a .r) (writes (a .r) (a .d)) (c .before .before .before .before .before .before .before .if2 .taken))) (after-none (a .r) (writes (a .r) (a .d)) (c .before .before .before .before .before .before .before .if2 .taken))
     (write-none (a .r) (a .d) (a .bits .now) (a .tags .now) (a .history .now) hb ht _ _ _ (put .1 .0) (put .1 .1) (c .before .before .before .before .before .before .before .if2 .taken) refl)
 
 sub-if3 : tie.Need-sub-if3
@@ -72,11 +72,14 @@ keep-cell-requires c κs =
 add-put-cell : tie.Need-add-put-cell
 add-put-cell c = search needs
 
+add-put-cell-2 : tie.Need-add-put-cell-2
+add-put-cell-2 c = search needs
+
 put-cell-requires-2 : tie.Need-put-cell-requires-2
 put-cell-requires-2 c κs =
-    let a = c .before .before .before .before .before .before .before .before .before .before .before .before .before .before .before .before .before .args in
-    let o = c .before .before .before .before .before .before .before .before .before .before .before .before .before .before .before .before .before .pre in
-    let low = o .block (leb-false _ _ (sym (c .before .before .before .before .before .before .before .before .before .before .before .before .before .is-high .ensures) ∙ c .before .before .before .before .before .before .before .before .before .before .before .before .if1 .left)) in
+    let a = c .before .before .before .before .before .before .before .before .before .before .before .before .before .before .before .before .before .before .args in
+    let o = c .before .before .before .before .before .before .before .before .before .before .before .before .before .before .before .before .before .before .pre in
+    let low = o .block (leb-false _ _ (sym (c .before .before .before .before .before .before .before .before .before .before .before .before .before .before .is-high .ensures) ∙ c .before .before .before .before .before .before .before .before .before .before .before .before .before .if1 .left)) in
     let hb : a .d .at < length (a .bits .now) = omega (arith, low, o .cells) in
     let ht : a .d .at < length (a .tags .now) = omega (arith, low, o .tagged) in
     (hb, o .tagged ∙ sym (o .cells))
@@ -92,14 +95,14 @@ same-length-5 c = search needs
 
 returns-4 : tie.Need-returns-4
 returns-4 c =
-    let a = c .before .before .before .before .before .before .before .before .before .before .before .before .before .before .before .before .before .before .before .before .before .before .args in
-    let o = c .before .before .before .before .before .before .before .before .before .before .before .before .before .before .before .before .before .before .before .before .before .before .pre in
-    let low = o .block (leb-false _ _ (sym (c .before .before .before .before .before .before .before .before .before .before .before .before .before .before .before .before .before .before .is-high .ensures) ∙ c .before .before .before .before .before .before .before .before .before .before .before .before .before .before .before .before .before .if1 .left)) in
+    let a = c .before .before .before .before .before .before .before .before .before .before .before .before .before .before .before .before .before .before .before .before .before .before .before .args in
+    let o = c .before .before .before .before .before .before .before .before .before .before .before .before .before .before .before .before .before .before .before .before .before .before .before .pre in
+    let low = o .block (leb-false _ _ (sym (c .before .before .before .before .before .before .before .before .before .before .before .before .before .before .before .before .before .before .before .is-high .ensures) ∙ c .before .before .before .before .before .before .before .before .before .before .before .before .before .before .before .before .before .before .if1 .left)) in
     let hb : a .d .at < length (a .bits .now) = omega (arith, low, o .cells) in
     let ht : a .d .at < length (a .tags .now) = omega (arith, low, o .tagged) in
     let put = c .before .before .before .before .put-cell2 .ensures in
-    carried-does (a .r) (memory (a .bits .now) (a .tags .now) (a .history .now)) _ (writes (a .r) (a .d)) _ _ (put .0) (leb-false _ _ (sym (c .before .before .before .before .before .before .before .before .before .before .before .before .before .before .before .before .before .before .is-high .ensures) ∙ c .before .before .before .before .before .before .before .before .before .before .before .before .before .before .before .before .before .if1 .left)) (room-left (a .r) (writes (a .r) (a .d)) (c .before .before .before .before .before .before .before .before .before .before .before .before .before .before .before .if2 .left) (c .before .before .before .before .before .before .before .before .before .before .before .before .before .if3 .left)) (after-kept (a .r) (writes (a .r) (a .d)) refl refl (c .before .before .before .before .before .before .before .before .before .before .before .before .before .before .before .if2 .left))
-    (write-kept (a .r) (a .d) (a .bits .now) (a .tags .now) (a .history .now) hb ht _ _ _ (put .1 .0) (put .1 .1) (c .before .before .before .before .before .before .before .before .before .before .before .before .before .before .before .if2 .left) (c .before .before .before .before .before .before .before .before .before .keep-cell .ensures))
+    carried-does (a .r) (memory (a .bits .now) (a .tags .now) (a .history .now)) _ (writes (a .r) (a .d)) _ _ (put .0) (leb-false _ _ (sym (c .before .before .before .before .before .before .before .before .before .before .before .before .before .before .before .before .before .before .before .is-high .ensures) ∙ c .before .before .before .before .before .before .before .before .before .before .before .before .before .before .before .before .before .before .if1 .left)) (room-left (a .r) (writes (a .r) (a .d)) (c .before .before .before .before .before .before .before .before .before .before .before .before .before .before .before .before .if2 .left) (c .before .before .before .before .before .before .before .before .before .before .before .before .before .before .if3 .left)) (after-kept (a .r) (writes (a .r) (a .d)) (c .before .before .before .before .before .before .before .before .before .before .before .before .before .before .before .before .if2 .left))
+    (write-kept (a .r) (a .d) (a .bits .now) (a .tags .now) (a .history .now) hb ht _ _ _ (put .1 .0) (put .1 .1) (c .before .before .before .before .before .before .before .before .before .before .before .before .before .before .before .before .if2 .left) (c .before .before .before .before .before .before .before .before .before .before .keep-cell .ensures))
 
 pub write-spec : {M : Type 1} → statement M
 write-spec =
@@ -117,6 +120,7 @@ write-spec =
     returns-3
     keep-cell-requires
     add-put-cell
+    add-put-cell-2
     put-cell-requires-2
     same-length-3
     same-length-4

@@ -21,10 +21,9 @@ same-length-3 c = search needs
 
 returns : tie.Need-returns
 returns c =
-    let a = c .before .before .before .before .before .before .before .before .before .before .before .before .before .before .before .before .args in
     let kept = c .before .before .before .before .before .before .before .before .before .keep .ensures in
     let cells = c .before .before .before .before .put .ensures in (
-      (λ i. record { n = a .r .n; h = a .r .h; pc = a .e .pc; sp = a .e .sp; fbr = a .e .fbr; halt = a .e .halt; used = kept .0 i }),
+      kept .0,
       λ i. memory (cells .0 i) (cells .1 i) (kept .1 i),
     )
 

@@ -2,7 +2,7 @@
 use native.Mathlib.Omega.{arith}
 use lib.ListN.{length-set}
 use borrow.Author.Needs.{needs}
-use Rattle.sam_c.proofs.Lent.{set-seven}
+use Rattle.sam_c.proofs.Lent.{set-all}
 use Rattle.sam_c.proofs.registers.write.Statement.{statement}
 use Rattle.sam_c.proofs.registers.write.Tie as tie
 
@@ -27,11 +27,14 @@ slice-write-registers-6 c = simp length-set (omega arith)
 slice-write-registers-7 : tie.Need-slice-write-registers-7
 slice-write-registers-7 c = simp length-set (omega arith)
 
+slice-write-registers-8 : tie.Need-slice-write-registers-8
+slice-write-registers-8 c = simp length-set (omega arith)
+
 same-length : tie.Need-same-length
 same-length c = search needs
 
 returns : tie.Need-returns
-returns c = set-seven (c .args .r) (c .args .registers .now) (c .pre)
+returns c = set-all (c .args .r) (c .args .registers .now) (c .pre)
 
 pub write-spec : {M : Type 1} → statement M
 write-spec =
@@ -44,5 +47,6 @@ write-spec =
     slice-write-registers-5
     slice-write-registers-6
     slice-write-registers-7
+    slice-write-registers-8
     same-length
     returns)

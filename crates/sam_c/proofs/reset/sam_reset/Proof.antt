@@ -1,13 +1,14 @@
 -- `sam_reset` meets its contract: what the reset answers and leaves. Assumes nothing.
 use mathlib.Core.Path.{sym}
 use borrow.Author.Needs.{needs}
+use Rattle.sam_c.specs.Calls.{registerCount}
 use Rattle.sam_c.proofs.Lent.{of-another}
 use Rattle.sam_c.proofs.Called.{reset-called}
 use Rattle.sam_c.proofs.reset.sam_reset.Statement.{statement}
 use Rattle.sam_c.proofs.reset.sam_reset.Tie as tie
 
 returns : tie.Need-returns
-returns c = sym (of-another 7 (c .before .before .before .before .before .before .args .registers .now) _ _ (c .if1 .taken))
+returns c = sym (of-another registerCount (c .before .before .before .before .before .before .args .registers .now) _ _ (c .if1 .taken))
 
 reset-requires : tie.Need-reset-requires
 reset-requires c κs = search needs

@@ -5,7 +5,7 @@ use Rattle.rules.specs.Table.{program}
 use Rattle.rules.specs.State.{memory}
 use Rattle.rules.specs.Run.{run}
 use Rattle.rules.specs.declared.Registers.{Registers}
-use Rattle.sam_c.specs.Calls.{walked, broken}
+use Rattle.sam_c.specs.Calls.{walked, broken, registerCount}
 use Rattle.sam_c.proofs.Lent.{of-length, of-another}
 use Rattle.sam_c.proofs.Called.{run-called}
 use Rattle.sam_c.proofs.run.sam_run.Statement.{statement}
@@ -24,7 +24,7 @@ returns-2 : tie.Need-returns-2
 returns-2 c =
     let a = c .before .before .before .before .before .before .before .before .before .before .before .before .args in
     (λ i. walked ((c .before .before .tell .ensures) i) broken (a .registers .now) (memory (a .bits .now) (a .tags .now) (a .history .now)))
-    ∙ sym (of-another 7 (a .registers .now) _ _ (c .before .before .before .before .if2 .taken))
+    ∙ sym (of-another registerCount (a .registers .now) _ _ (c .before .before .before .before .if2 .taken))
     ∙ sym (of-length 1 (a .told .now) _ _ (c .before .before .before .before .before .if1 .left))
 
 read-requires : tie.Need-read-requires

@@ -5,13 +5,14 @@ use Rattle.rules.specs.Table.{program}
 use Rattle.rules.specs.State.{memory}
 use Rattle.rules.specs.Back.{back}
 use Rattle.rules.specs.declared.Registers.{Registers}
+use Rattle.sam_c.specs.Calls.{registerCount}
 use Rattle.sam_c.proofs.Lent.{of-another}
 use Rattle.sam_c.proofs.Called.{step-called}
 use Rattle.sam_c.proofs.step_back.sam_step_back.Statement.{statement}
 use Rattle.sam_c.proofs.step_back.sam_step_back.Tie as tie
 
 returns : tie.Need-returns
-returns c = sym (of-another 7 (c .before .before .before .before .before .before .args .registers .now) _ _ (c .if1 .taken))
+returns c = sym (of-another registerCount (c .before .before .before .before .before .before .args .registers .now) _ _ (c .if1 .taken))
 
 read-requires : tie.Need-read-requires
 read-requires c κs = search needs
