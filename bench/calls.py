@@ -61,6 +61,9 @@ class Script:
         self.decimals = Counter()  # marks of those assembled, and (number, operand) of PUSHIMMF's refused
         self.dwells = Counter()  # (HALT, whether SP is above 0, cell 0, number, tenths) of each dwell
         self.dwells_after = Counter()  # (word of the call before on that machine, number) of each dwell
+        self.kept_numbers = Counter()  # (word of the call that left them, word, H, U, kept number, number) of each call
+        self.taken_back = Counter()  # (whether there is a history, steps) of each series all taken back; 2 is for more
+        self.register_lengths = Counter()  # (word, length, number) of each call with registers of another length
 
     def say(self, line):
         self.lines.append((line, None))
@@ -122,24 +125,31 @@ class Script:
         return bytes(output[: told[0]]) if number == 0 else b""
 
 
-def seven(registers):
+def in_order(registers):
+    """The registers as include/sam.h has them."""
     r = registers
-    return [r.n, r.h, r.pc, r.sp, r.fbr, r.halt, r.used]
+    return [r.n, r.h, r.pc, r.sp, r.fbr, r.halt, r.used, r.kept]
+
+
+REGISTERS = len(in_order(sam.Registers()))
 
 
 class LentMachine:
     """A machine of the driver and the same machine in sam/."""
 
-    def __init__(self, script, program, state, registers_length=7):
+    def __init__(self, script, program, state, registers_length=REGISTERS):
         self.script, self.program, self.state = script, program, state
         self.registers_length = registers_length
         self.last_word = None  # of the last call that may change it
+        self.left_by = None  # word of the call that left the registers as they are; none, where they were made by hand
+        self.registers_before = state.registers  # those before the next call
+        self.told = []  # by the last call
         script.program(program)
         self.lend()
 
     def registers_word(self):
-        """The registers as lent: seven, or another count where the case is about that."""
-        values = seven(self.state.registers) + [0]
+        """The registers as lent: all, or another count where the case is about that."""
+        values = in_order(self.state.registers) + [0]
         return list_word(values[: self.registers_length])
 
     def lend(self):
@@ -155,12 +165,24 @@ class LentMachine:
         name = NAMES[self.program.table[registers.pc] >> 32]
         self.script.refused_steps[word, name, number, registers.h > 0] += 1
 
+    def count_kept(self, word, number):
+        """By the registers that the call was given."""
+        before, after = self.registers_before, self.state.registers
+        self.script.kept_numbers[self.left_by, word, before.h, before.used, before.kept, number] += 1
+        if after != before:
+            self.left_by, self.registers_before = word, after
+
     def answer(self, line, number, told):
         word = line.split(" ", 1)[0]
         if number in COUNTED_REFUSALS:
             self.count_refusal(word, number)
+        if self.registers_length == REGISTERS:
+            self.count_kept(word, number)
+        else:
+            self.script.register_lengths[word, self.registers_length, number] += 1
         if word != "dwell":
             self.last_word = word
+        self.told = told
         self.script.call(
             line,
             number,
@@ -176,7 +198,7 @@ class LentMachine:
 
     def machine_call(self, word, call):
         """ "registers of another length are 10 and change nothing" """
-        number = call(self.program, self.state) if self.registers_length == 7 else 10
+        number = call(self.program, self.state) if self.registers_length == REGISTERS else 10
         return self.answer(word, number, [])
 
     def reset(self):
@@ -192,7 +214,7 @@ class LentMachine:
         """A call that tells one value. "A `told` of another length is 31 before anything else and changes nothing" """
         if told_length != 1:
             number, told = 31, marked(told_length, 8)
-        elif self.registers_length != 7:
+        elif self.registers_length != REGISTERS:
             number, told = 10, [0]
         else:
             number, *told = call()

@@ -4,7 +4,7 @@ from dataclasses import replace
 from itertools import chain, product
 
 import sam
-from calls import ASSEMBLE_TOLD, IMAGE_BYTES, PLACES, TEXT_BYTES, LentMachine
+from calls import ASSEMBLE_TOLD, IMAGE_BYTES, PLACES, REGISTERS, TEXT_BYTES, LentMachine
 from dwells import ADDRESS_CELLS, FLOAT_CELLS, INTEGER_CELLS, KINDS_OF_CELLS, PLAIN_CELLS, any_cell
 from programs import CONVERSIONS, FLOAT_EDGES, FTOI_EDGES, INTEGER_EDGES, ITOF_EDGES, SUMS, TWO_FLOATS, TWO_INTEGERS
 from programs import any_integer, any_operand, any_pattern, any_program
@@ -16,6 +16,7 @@ from sources import any_source, corner_sources
 
 WORD = 1 << 32
 DOUBLE_WORD = 1 << 64
+OTHER_LENGTHS = [0, REGISTERS - 2, REGISTERS - 1, REGISTERS + 1]  # of lent registers
 
 
 # ---- sources
@@ -169,33 +170,51 @@ def fresh_state(chooser):
         bits=[chooser.randrange(WORD)] * n,
         tags=[chooser.randrange(256)] * n,
         history=[chooser.randrange(DOUBLE_WORD)] * h,
-        registers=sam.Registers(*[chooser.randrange(9) for _ in range(7)]),
+        registers=sam.Registers(*[chooser.randrange(9) for _ in range(REGISTERS)]),
     )
 
 
 def series_call(chooser, lent):
+    """A call, and by how much it changes S minus B: steps accepted less step-backs accepted."""
     kind = chooser.randrange(12)
     if kind < 6:
-        return lent.step()
+        return 1 if lent.step() == 0 else 0
     if kind < 9:
-        return lent.back()
-    if kind == 9:
-        return lent.run(chooser.randrange(1, 8))
-    return lent.run(chooser.choice([0, 20, 200, 1000]))
+        return -1 if lent.back() == 0 else 0
+    lent.run(chooser.randrange(1, 8) if kind == 9 else chooser.choice([0, 20, 200, 1000]))
+    steps, *_ = lent.told
+    return steps
+
+
+def check_kept(state, net_steps):
+    """Request g: "the number of step places in use"; "With H above 0 it equals S minus B; with H = 0 it is 0." """
+    r = state.registers
+    assert r.kept == sum(place >> 63 for place in state.history[: r.used]), r
+    assert r.kept == (net_steps if r.h > 0 else 0), (r, net_steps)
+
+
+def take_all_back(script, lent):
+    """As many step-backs as the kept number says are accepted, and the next is refused."""
+    kept, h = lent.state.registers.kept, lent.state.registers.h
+    numbers = [lent.back() for _ in range(kept + 1)]
+    assert numbers == [0] * kept + [9], numbers
+    script.taken_back[h > 0, min(kept, 2)] += 1
 
 
 def series_case(chooser, script):
     """A reset, then steps, runs and step-backs; now and then cell 0 is read, or all is taken back."""
     lent = LentMachine(script, made_program(chooser), fresh_state(chooser))
     lent.reset()
+    net_steps = 0
+    check_kept(lent.state, net_steps)
     for _ in range(chooser.randrange(4, 30)):
         if chooser.randrange(6) == 0:
             lent.dwell()
-        series_call(chooser, lent)
+        net_steps += series_call(chooser, lent)
+        check_kept(lent.state, net_steps)
     lent.dwell()
     if chooser.randrange(4) == 0 and lent.state.registers.used <= 100:
-        while lent.back() == 0:
-            pass
+        take_all_back(script, lent)
 
 
 def reset_case(chooser, script):
@@ -206,8 +225,8 @@ def reset_case(chooser, script):
     program = made_program(chooser)
     if chooser.randrange(2):
         program = damaged_program(chooser, program)
-    state = sam.State([7] * n, [8] * tags, [9] * h, sam.Registers(1, 2, 3, 4, 5, 6, 7))
-    lent = LentMachine(script, program, state, chooser.choice([7] * 8 + [0, 6, 8]))
+    state = sam.State([7] * n, [8] * tags, [9] * h, sam.Registers(1, 2, 3, 4, 5, 6, 7, 8))
+    lent = LentMachine(script, program, state, chooser.choice([REGISTERS] * 8 + OTHER_LENGTHS))
     lent.reset()
     lent.step()
 
@@ -223,12 +242,26 @@ def worked_state(chooser, program):
     return state
 
 
+def allowed_kept(chooser, used):
+    """A kept number that is not 10 with this U, whatever the history."""
+    return chooser.choice([1, used, chooser.randrange(1, used + 1)]) if used else 0
+
+
 def break_registers(chooser, program, state):
     r = state.registers
     name = chooser.choice(["n", "h", "pc", "sp", "fbr", "halt", "used"])
     near = {"n": r.n, "h": r.h, "pc": program.length, "sp": r.n, "fbr": r.n, "halt": 2, "used": r.h}[name]
     value = chooser.choice([near - 1, near, near + 1, chooser.randrange(1100), DOUBLE_WORD - 1, WORD])
     setattr(r, name, max(value, 0))
+    if name == "used" and chooser.randrange(2):
+        r.kept = allowed_kept(chooser, r.used)
+
+
+def break_kept(chooser, program, state):
+    """Above U by one or by more, 0, or allowed whatever the records are."""
+    r = state.registers
+    above = chooser.choice([r.used + 1, r.used + 2, r.h + 1, WORD + r.used, DOUBLE_WORD >> 1, DOUBLE_WORD - 1])
+    r.kept = chooser.choice([above, 0, allowed_kept(chooser, r.used)])
 
 
 def break_cells(chooser, program, state):
@@ -275,9 +308,12 @@ def made_record(chooser, program, state):
     start = chooser.randrange(h - count)
     state.history[start : start + count + 1] = cells + [last]
     state.registers.used = start + count + 1
+    state.registers.kept = allowed_kept(chooser, start + count + 1)
 
 
-BREAKS = [break_registers, break_registers, break_cells, break_slices, break_record, made_record, made_record]
+BREAKS = [
+    break_registers, break_registers, break_kept, break_cells, break_slices, break_record, made_record, made_record,
+]  # fmt: skip
 
 
 def any_call(chooser, lent):
@@ -288,7 +324,7 @@ def any_call(chooser, lent):
         return lent.step()
     if kind < 5:
         return lent.dwell(chooser.choice([1] * 8 + [0, 2]))
-    limit = chooser.choice([0, 1, 50, 1000000, 1000001, DOUBLE_WORD - 1]) if lent.registers_length == 7 else 5
+    limit = chooser.choice([0, 1, 50, 1000000, 1000001, DOUBLE_WORD - 1]) if lent.registers_length == REGISTERS else 5
     return lent.run(limit, chooser.choice([1] * 8 + [0, 2]))
 
 
@@ -300,9 +336,64 @@ def broken_case(chooser, script):
         program = damaged_program(chooser, program)
     else:
         chooser.choice(BREAKS)(chooser, program, state)
-    lent = LentMachine(script, program, state, chooser.choice([7] * 20 + [6, 8]))
+    lent = LentMachine(script, program, state, chooser.choice([REGISTERS] * 20 + OTHER_LENGTHS))
     for _ in range(5):
         any_call(chooser, lent)
+
+
+# ---- the kept number of a machine made by hand
+
+CALLS = {
+    "step": LentMachine.step,
+    "back": LentMachine.back,
+    "run": lambda lent: lent.run(9),
+    "plain": lambda lent: lent.run(9, word="plain"),
+    "dwell": LentMachine.dwell,
+    "reset": LentMachine.reset,
+}
+USED_SIZES = [(0, 0), (8, 0), (8, 1), (8, 4), (8192, 8000)]  # H and U, with room for a step and a run
+# H, U and a kept number that is 10: above U by one, by more and by a lot, also with U in its lower half, or 0.
+BROKEN_KEPT = [
+    (h, used, kept)
+    for h, used in USED_SIZES
+    for kept in sorted({used + 1, used + 2, h + 1, WORD + used, DOUBLE_WORD >> 1, DOUBLE_WORD - 1} | {0} - {used})
+]
+# H, U and a kept number that is allowed, whatever the records are.
+ALLOWED_KEPT = [
+    (h, used, kept) for h, used in USED_SIZES for kept in sorted({1, 2, used - 1, used}) if 1 <= kept <= used
+]
+SHORT_RECORD = [step_place(0, 1, 0, 0)]
+LONG_RECORD = [cell_place(0, INT, 40), step_place(0, 1, 0, 1)]
+RECORDED_PLACES = 4  # at most, at the top of such a history; the rest are zero
+
+
+def counted_state(h, used, kept, record, halt):
+    """A machine with this kept number and records like this one, which need not be as many."""
+    state = halted((INT, 40), h, halt=halt, used=used, kept=kept)
+    count = min(used, RECORDED_PLACES)
+    state.history[used - count : used] = (record * count)[-count:]
+    return state
+
+
+def kept_corners(script):
+    """Each call on every such machine, and all calls on what it leaves: what a step-back leaves may be 10."""
+    program = single("JUMP 1")
+    kinds = product(BROKEN_KEPT + ALLOWED_KEPT, (SHORT_RECORD, LONG_RECORD), (0, 1))
+    for ((h, used, kept), record, halt), first in product(kinds, ("step", "back", "run", "plain")):
+        lent = LentMachine(script, program, counted_state(h, used, kept, record, halt))
+        for word in (first, "dwell", *CALLS):
+            CALLS[word](lent)
+
+
+def length_corners(script):
+    """Each call with registers of another length, and nothing else to refuse it."""
+    for call, length in product(CALLS.values(), OTHER_LENGTHS):
+        call(LentMachine(script, single("JUMP 1"), halted((INT, 40)), length))
+
+
+def broken_corners(script):
+    kept_corners(script)
+    length_corners(script)
 
 
 # ---- cell 0 of a halted machine
@@ -335,7 +426,7 @@ def dwell_histories(script, program):
     """Every PC, and histories used up to any place, with nothing well formed in them."""
     for cell, pc, h in product(PLAIN_CELLS, range(program.length + 2), (0, 1, 8)):
         for used in range(h + 2):
-            state = halted(cell, h, pc=pc, used=used)
+            state = halted(cell, h, pc=pc, used=used, kept=min(used, 1))
             state.history[:] = [JUNK] * h
             lent = LentMachine(script, program, state)
             lent.dwell()
@@ -344,8 +435,9 @@ def dwell_histories(script, program):
 
 def dwell_lengths(script, program):
     """A told and registers of any length, also where there is another refusal."""
-    for cell, halt, lent_registers, told_length in product(KINDS_OF_CELLS, (0, 1, 2), (0, 6, 7, 8), (0, 1, 2, 3)):
-        LentMachine(script, program, halted(cell, halt=halt), lent_registers).dwell(told_length)
+    lengths = [*OTHER_LENGTHS, REGISTERS]
+    for cell, halt, registers_length, told_length in product(KINDS_OF_CELLS, (0, 1, 2), lengths, (0, 1, 2, 3)):
+        LentMachine(script, program, halted(cell, halt=halt), registers_length).dwell(told_length)
 
 
 def dwell_corners(script):
@@ -364,6 +456,7 @@ def dwell_state(chooser, program):
     r.halt = chooser.choice([0, 1, 1, 1, 1, 1, 1, 1])
     r.sp = chooser.choice([0, min(1, r.n - 1), r.n - 1, r.sp, *[chooser.randrange(r.n)] * 4])
     r.pc, r.fbr, r.used = (chooser.randrange(end + 1) for end in (program.length, r.n - 1, r.h))
+    r.kept = allowed_kept(chooser, r.used)
     if chooser.randrange(2):
         state.history[:] = [chooser.randrange(DOUBLE_WORD)] * r.h
     return state
@@ -377,7 +470,7 @@ def dwell_case(chooser, script):
         chooser.choice(BREAKS)(chooser, program, state)
     if chooser.randrange(16) == 0:
         program = damaged_program(chooser, program)
-    lent = LentMachine(script, program, state, chooser.choice([7] * 20 + [0, 6, 8]))
+    lent = LentMachine(script, program, state, chooser.choice([REGISTERS] * 20 + OTHER_LENGTHS))
     lent.dwell(chooser.choice([1] * 20 + [0, 2]))
 
 
@@ -556,6 +649,7 @@ def plain_case(chooser, script):
 CORNERS = {
     "text": text_corners,
     "image": image_corners,
+    "broken": broken_corners,
     "dwell": dwell_corners,
     "instruction": instruction_corners,
     "plain": plain_corners,

@@ -7,7 +7,9 @@ DRIVER and COMMAND are commands: a program, or an emulator and a program. Exit s
 number of the documents was never given back, a fault of a source was never in a first line or never in a later one, a
 test of FLOATs that request b speaks of, a sum at the ends of 32 bits that request d speaks of or a conversion that
 request e speaks of was never made, a step or a run was never refused at such a sum or conversion, a kind of decimal or
-a code at the end of the codes was never read, or a dwell that request f speaks of was never read or never refused.
+a code at the end of the codes was never read, a dwell that request f speaks of was never read or never refused, a kept
+number that request g speaks of was never given to a call or its steps never all taken back, or registers of another
+length were never refused.
 """
 
 import argparse
@@ -20,7 +22,7 @@ from itertools import permutations, product
 
 import sam
 from calls import Script
-from cases import CORNERS, FAMILIES
+from cases import ALLOWED_KEPT, BROKEN_KEPT, CALLS, CORNERS, FAMILIES, OTHER_LENGTHS
 from decimals import ALL_MARKS, ILL_FORMED, TOO_LONG
 from dwells import KINDS_OF_CELLS, LONGEST, REFUSED_CELLS, SHORTEST, first_of
 from programs import CONVERSIONS, FTOI_ENDS, GREATEST, INFINITIES, INTEGER_TIES, LEAST, MINUS_ZERO, NANS, SUMS, ZEROS
@@ -69,6 +71,10 @@ DWELLS_READ = [  # what request f added: cell 0 and its tenths, from the first F
     *[((tag, value % WORD), end) for tag, end, values in HELD for value in values],
 ]
 DWELLS_AFTER = [("reset", 60), ("step", 60), ("back", 60), ("step", 0), ("run", 0)]  # the call before, and the number
+# What request g added: H, U and the kept number that a step-back of a machine made by hand leaves, refused and not.
+BROKEN_BY_BACK = [(8, 3, 0), (8, 2, 0), (8, 2, 3), (8192, 7999, 0)]
+ALLOWED_BY_BACK = [(8, 3, 1), (8, 3, 3), (8, 2, 1), (8, 2, 2), (8192, 7999, 7999)]
+TAKEN_BACK = [(False, 0), (True, 0), (True, 1), (True, 2)]  # whether there is a history, and steps; 2 is for more
 CUT = 400  # characters of a line that a difference shows
 
 
@@ -187,15 +193,30 @@ def dwell_tests():
         yield 1, True, (tag, bits), 63 if tag == FLOAT else 62, 0
 
 
+def kept_tests():
+    """(The call that left the registers, or none; the call; H, U and kept number; number): refused by every call that
+    asks for a sound state, or done by each; and so where a step-back left them, of which a dwell tells most."""
+    asking = [word for word in CALLS if word != "reset"]
+    for word, kept in product(asking, BROKEN_KEPT):
+        yield None, word, *kept, 10
+    for word, kept in product(asking, ALLOWED_KEPT):
+        yield None, word, *kept, 0
+    for word, kept in product(asking, BROKEN_BY_BACK):
+        yield "back", word, *kept, 10
+    for kept in ALLOWED_BY_BACK:
+        yield "back", "dwell", *kept, 60
+
+
 def all_met(script):
     """Whether the cases led to every number, to every fault of a source in its first line and in a later one, to every
     test of FLOATs, sum and conversion by the proved step and by the direct run, to sums and conversions refused with
-    and without a history, to every kind of decimal, to the last codes, and to every dwell."""
+    and without a history, to every kind of decimal, to the last codes, to every dwell, and to every kept number."""
     lines = product(FAULTS, (1, 2))
     tests = [(word, *test) for word in ("step", "plain") for test in [*FLOAT_TESTS, *sum_tests(), *CONVERSION_TESTS]]
     refused = [*[(name, 6) for name in SUMS], ("FTOI", 5)]
     steps = [(word, *of, h) for word, of, h in product(("step", "run", "plain"), refused, (False, True))]
     codes = [(word, *code) for word, code in product(("unpack", "plain_unpack"), LAST_CODES)]
+    lengths = [(word, length, 10) for word, length in product(CALLS, OTHER_LENGTHS)]
     complete = [
         all_in(script.numbers, ALL_NUMBERS, "never given back"),
         all_in(script.fault_lines, lines, "faults never in the first line (1) or never in a later one (2)"),
@@ -205,6 +226,9 @@ def all_met(script):
         all_in(script.codes, codes, "codes never unpacked, with their numbers"),
         all_in(script.dwells, dwell_tests(), "dwells (HALT, any value, cell 0, number, tenths) never read or refused"),
         all_in(script.dwells_after, DWELLS_AFTER, "dwells never given back after such a call"),
+        all_in(script.kept_numbers, kept_tests(), "kept numbers (left by, call, H, U, kept, number) never met"),
+        all_in(script.taken_back, TAKEN_BACK, "series (any history, steps; 2 for more) never taken back to the reset"),
+        all_in(script.register_lengths, lengths, "registers of such a length never refused"),
     ]
     return all(complete)
 

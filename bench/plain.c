@@ -1,4 +1,4 @@
-/* A direct C interpreter of document 01 with requests b, d and e of document 02, as one would write it for
+/* A direct C interpreter of document 01 with requests b, d, e and g of document 02, as one would write it for
  * speed: soundness is judged once, then a loop over one switch whose cases test, record and write their cells
  * themselves. The proved run is measured against it. */
 #include "plain.h"
@@ -14,7 +14,7 @@ struct machine {
     uint32_t *bits;
     uint8_t *tags;
     uint64_t *history;
-    uint64_t length, n, h, pc, sp, fbr, halt, used;
+    uint64_t length, n, h, pc, sp, fbr, halt, used, kept;
 };
 
 struct cell { uint32_t bits; uint8_t tag; };
@@ -23,7 +23,8 @@ struct cell { uint32_t bits; uint8_t tag; };
 
 static bool registers_sound(const struct machine *m) {
     return m->n >= 1 && m->n <= SAM_CELL_LIMIT && m->h <= SAM_HISTORY_LIMIT && m->sp < m->n && m->fbr < m->n &&
-           m->pc <= m->length && m->halt <= 1 && m->used <= m->h;
+           m->pc <= m->length && m->halt <= 1 && m->used <= m->h && m->kept <= m->used &&
+           (m->kept > 0 || m->used == 0);
 }
 
 static bool cells_sound(const struct machine *m) {
@@ -253,6 +254,7 @@ end:
     m->halt = halt;
     m->used = used;
     *made = limit - left;
+    if (h > 0) m->kept += *made; /* every step made is recorded */
     return number;
 }
 
@@ -265,7 +267,7 @@ uint32_t plain_run(const uint64_t *table, size_t places, uint64_t length, uint64
     if (limit > SAM_RUN_LIMIT) return 11;
     struct machine m = {
         table, bits, tags, history, length, registers[SAM_N], registers[SAM_H_PLACES], registers[SAM_PC],
-        registers[SAM_SP], registers[SAM_FBR], registers[SAM_HALT], registers[SAM_U],
+        registers[SAM_SP], registers[SAM_FBR], registers[SAM_HALT], registers[SAM_U], registers[SAM_KEPT],
     };
     if (!table_sound(table, places, length) || m.n != n || m.n != tags_len || m.h != h) return 10;
     if (!registers_sound(&m) || !cells_sound(&m)) return 10;
@@ -276,6 +278,7 @@ uint32_t plain_run(const uint64_t *table, size_t places, uint64_t length, uint64
     registers[SAM_FBR] = m.fbr;
     registers[SAM_HALT] = m.halt;
     registers[SAM_U] = m.used;
+    registers[SAM_KEPT] = m.kept;
     told[0] = steps;
     return number;
 }

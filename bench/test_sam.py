@@ -1,5 +1,5 @@
 #!/usr/bin/env python3
-"""Tests of the interpreter in sam/: the twelve P examples of document 01, its sentences, requests a, b, d, e and f,
+"""Tests of the interpreter in sam/: the twelve P examples of document 01, its sentences, requests a, b, d, e, f and g,
 and the settled readings.
 
 Every expected value is read off the documents or worked out by hand; none is copied from an output.
@@ -9,11 +9,12 @@ import ctypes
 import random
 import struct
 import unittest
-from dataclasses import replace
+from dataclasses import fields, replace
 from fractions import Fraction
 from itertools import product
 
 import decimals
+import programs
 import sam
 from sam import floats
 from sam.actions import FLOAT, INT, MA, PA
@@ -120,7 +121,7 @@ class PExamples(unittest.TestCase):
         self.assertEqual(sam.step_back(made, state), 0)
         self.assertEqual(state.cell(0), (INT, 40))
         self.assertEqual(state.history[4:], [0, 0])
-        self.assertEqual(state.registers, sam.Registers(n=16, h=6, pc=2, sp=2, fbr=0, halt=0, used=4))
+        self.assertEqual(state.registers, sam.Registers(n=16, h=6, pc=2, sp=2, fbr=0, halt=0, used=4, kept=2))
 
 
 class Text(unittest.TestCase):
@@ -543,7 +544,7 @@ class EqualAndNil(unittest.TestCase):
         self.assertEqual(state.history[4:], [0x000C000000000000, 0x8020080000400000])
         self.assertEqual(sam.step_back(made, state), 0)
         self.assertEqual(live(state), [(FLOAT, self.MINUS_ZERO), (FLOAT, self.ZERO)])
-        self.assertEqual(state.registers, sam.Registers(n=16, h=6, pc=2, sp=2, used=4))
+        self.assertEqual(state.registers, sam.Registers(n=16, h=6, pc=2, sp=2, used=4, kept=2))
 
 
 class AddressSums(unittest.TestCase):
@@ -1476,6 +1477,7 @@ class Dwell(unittest.TestCase):
         for name, value in [
             ("n", 0), ("n", 3), ("n", 5), ("h", 7), ("h", 9), ("pc", 3), ("pc", 1 << 63), ("sp", 4), ("sp", 1 << 63),
             ("fbr", 4), ("fbr", 1 << 63), ("halt", 2), ("halt", 1 << 63), ("used", 9), ("used", 1 << 63),
+            ("kept", 0), ("kept", 4), ("kept", 1 << 63),  # U is 3
         ]:  # fmt: skip
             made, state = self.halted()
             setattr(state.registers, name, value)
@@ -1522,7 +1524,7 @@ class Dwell(unittest.TestCase):
     def test_at_the_ends_of_sound(self):
         """Not broken: the largest registers, a PA at the length, the least machines."""
         made, state = self.halted()
-        state.registers = sam.Registers(n=4, h=8, pc=2, sp=3, fbr=3, halt=1, used=8)
+        state.registers = sam.Registers(n=4, h=8, pc=2, sp=3, fbr=3, halt=1, used=8, kept=8)
         state.set_cell(3, PA, 2)
         self.assertEqual(self.read_state(made, state), (0, 40))
         self.assertEqual(self.of_program("PUSHIMM 40 STOP", n=2), (0, 40))
@@ -1532,7 +1534,7 @@ class Dwell(unittest.TestCase):
         """Only its length and U: a top record that a step-back refuses is no 10 here, as it is none for a step."""
         made, state = self.halted(h=8)
         for used in range(9):
-            state.registers.used = used
+            state.registers.used, state.registers.kept = used, min(used, 1)
             state.history[:] = [~0 % (1 << 64)] * 8
             self.assertEqual(self.read_state(made, state), (0, 40), used)
             self.assertEqual(sam.step(made, state), 1, used)
@@ -1568,6 +1570,261 @@ class Dwell(unittest.TestCase):
         self.assertEqual(self.read_state(made, state), (0, 10))
 
 
+class KeptNumber(unittest.TestCase):
+    """Request g: how many steps can be taken back."""
+
+    # Seven steps; a record has one place for the step and one for each cell written.
+    PROGRAM = "PUSHIMM 1 DUP SWAP ADD JUMP 5 ADDSP 2 STOP"
+    USED = [0, 2, 4, 7, 9, 10, 13, 14]  # U after so many steps
+
+    # H, U and a kept number "above U", or "0 with U above 0".
+    BROKEN = [
+        (0, 0, 1), (0, 0, 1 << 32), (0, 0, 1 << 63), (0, 0, (1 << 64) - 1),
+        (8, 0, 1), (8, 0, 8), (8, 0, 1 << 63), (8, 0, (1 << 64) - 1),
+        (8, 1, 0), (8, 1, 2), (8, 4, 0), (8, 4, 5), (8, 4, 8), (8, 4, 9), (8, 4, 1 << 63), (8, 4, (1 << 64) - 1),
+        (8, 4, (1 << 32) + 4),  # U in its lower half
+        (8, 8, 0), (8, 8, 9), (8192, 8192, 0), (8192, 8192, 8193), (8192, 8192, 1 << 63),
+    ]  # fmt: skip
+    # H, U and a kept number that is neither.
+    ALLOWED = [
+        (0, 0, 0), (8, 0, 0), (8, 1, 1), (8, 4, 1), (8, 4, 2), (8, 4, 3), (8, 4, 4), (8, 6, 1), (8, 6, 6),
+        (8192, 8000, 1), (8192, 8000, 8000),
+    ]  # fmt: skip
+
+    ONE_PLACE = [1 << 63 | 1 << 42]  # a record of a step at PC 0 with SP 1 that wrote no cell,
+    TWO_PLACES = [40 << 19, 1 << 63 | 1 << 42 | 1 << 22]  # and of one that wrote cell 0, where INT 40 stood
+
+    def by_hand(self, h, used, kept, record=ONE_PLACE, **registers):
+        """A machine with INT 40 in cell 0, at a JUMP before a STOP, its places in use full of this record."""
+        state = stacked((INT, 40), h=h)
+        state.history[:used] = (record * used)[-used:]
+        state.registers = replace(state.registers, used=used, kept=kept, **registers)
+        return program("JUMP 1 STOP"), state
+
+    def walked(self, state):
+        """ "The screen walks the history for this": from the top, a record at a time."""
+        records, at = 0, state.registers.used
+        while at > 0:
+            at -= 1 + (state.history[at - 1] >> 22 & 0x3FF)
+            records += 1
+        self.assertEqual(at, 0)
+        return records
+
+    def check_broken(self, made, state):
+        """10 from each call that asks for a sound state, and nothing changed."""
+        before = contents(state)
+        self.assertEqual(sam.step(made, state), 10, before)
+        self.assertEqual(sam.step_back(made, state), 10, before)
+        self.assertEqual([sam.run(made, state, limit) for limit in (0, 1, 9)], [(10, 0)] * 3, before)
+        self.assertEqual(sam.dwell(made, state), (10, 0), before)
+        self.assertEqual(contents(state), before)
+
+    # ---- what each call does with it
+
+    def test_last_register(self):
+        names = ["n", "h", "pc", "sp", "fbr", "halt", "used", "kept"]
+        self.assertEqual([field.name for field in fields(sam.Registers)], names)
+
+    def test_reset(self):
+        made = program("STOP")
+        for h in (0, 8):
+            state = sam.State([9] * 4, [9] * 4, [9] * h, sam.Registers(1, 2, 3, 4, 5, 6, 7, 8))
+            self.assertEqual(sam.reset(made, state), 0)
+            self.assertEqual(state.registers, sam.Registers(n=4, h=h))
+            self.assertEqual(state.registers.kept, 0)
+
+    def test_refused_reset(self):
+        """ "A refused reset returns zero registers." """
+        made = program("STOP")
+        for refused, tags, number in [(made, 3, 11), (sam.Program(made.table, 1025), 4, 10)]:
+            state = sam.State([9] * 4, [9] * tags, [9] * 8, sam.Registers(1, 2, 3, 4, 5, 6, 7, 8))
+            self.assertEqual(sam.reset(refused, state), number)
+            self.assertEqual((state.registers, state.registers.kept), (sam.Registers(), 0))
+
+    def test_steps_and_back(self):
+        """One more with each step, one less with each step-back, however many places a record has."""
+        made, state = started(self.PROGRAM, h=14)
+        for steps in range(1, 8):
+            self.assertEqual(sam.step(made, state), 0)
+            self.assertEqual((state.registers.kept, state.registers.used), (steps, self.USED[steps]))
+        self.assertEqual((sam.step(made, state), state.registers.kept), (1, 7))
+        for steps in range(6, -1, -1):
+            self.assertEqual(sam.step_back(made, state), 0)
+            self.assertEqual((state.registers.kept, state.registers.used), (steps, self.USED[steps]))
+        self.assertEqual((sam.step_back(made, state), state.registers.kept), (9, 0))
+
+    def test_no_history(self):
+        """ "with H = 0 it is 0" """
+        made, state = started(self.PROGRAM)
+        for _ in range(7):
+            self.assertEqual((sam.step(made, state), state.registers.kept), (0, 0))
+        self.assertEqual((sam.step_back(made, state), state.registers.kept), (9, 0))
+        made, state = started(self.PROGRAM)
+        self.assertEqual((sam.run(made, state, 9), state.registers.kept), ((0, 7), 0))
+
+    def test_run(self):
+        made, state = started(self.PROGRAM, h=14)
+        for limit, answer, kept in [(0, (50, 0), 0), (3, (50, 3), 3), (0, (50, 0), 3), (9, (0, 4), 7), (9, (0, 0), 7)]:
+            self.assertEqual(sam.run(made, state, limit), answer)
+            self.assertEqual((state.registers.kept, state.registers.used), (kept, self.USED[kept]))
+        self.assertEqual((sam.step_back(made, state), sam.step_back(made, state), state.registers.kept), (0, 0, 5))
+        self.assertEqual((sam.run(made, state, 1), state.registers.kept), ((50, 1), 6))
+
+    def test_run_that_is_refused(self):
+        """ "Steps made before a refusal stand", and are counted with a history alone."""
+        for text, n, number, steps in [
+            ("PUSHIMM 1 PUSHIMM 2", 16, 2, 2),
+            ("PUSHIMM 1 ADD", 16, 3, 1),
+            ("PUSHIMM 1 PUSHSP ADD", 16, 4, 2),
+            ("PUSHIMM 1 PUSHIMM 0 DIV", 16, 5, 2),
+            ("PUSHSP PUSHIND", 16, 6, 1),
+            ("PUSHIMM 1 PUSHIMM 1 PUSHIMM 1", 3, 7, 2),
+            ("ADD", 16, 3, 0),
+        ]:
+            for h in (0, 64):
+                made, state = started(text, n=n, h=h)
+                for made_now in (steps, 0):
+                    self.assertEqual(sam.run(made, state, 9), (number, made_now), text)
+                    self.assertEqual(state.registers.kept, steps if h else 0, text)
+
+    def test_full_history(self):
+        """8 leaves it too: five places hold three steps of two, one and two places, or five of one."""
+        made, state = started("a: PUSHIMM 1 JUMP a", h=5)
+        self.assertEqual((sam.run(made, state, 99), state.registers.kept), ((8, 3), 3))
+        made, state = started("a: JUMP a", h=5)
+        self.assertEqual((sam.run(made, state, 99), state.registers.kept), ((8, 5), 5))
+        self.assertEqual((sam.step(made, state), state.registers.kept), (8, 5))
+        self.assertEqual((sam.step_back(made, state), state.registers.kept), (0, 4))
+        self.assertEqual((sam.run(made, state, 99), state.registers.kept), ((8, 1), 5))
+
+    def test_refused_calls_leave_it(self):
+        """Each number of a step, of a step-back and of a run's entry."""
+        for number, h, used, kept, registers in [
+            (1, 8, 4, 2, {"halt": 1}),
+            (2, 8, 4, 2, {"pc": 2}),
+            (8, 8, 8, 3, {}),
+            (10, 8, 4, 2, {"fbr": 2}),
+        ]:
+            made, state = self.by_hand(h, used, kept, **registers)
+            before = contents(state)
+            self.assertEqual(sam.step(made, state), number)
+            self.assertEqual(sam.run(made, state, 1000001), (11, 0))
+            self.assertEqual(contents(state), before, number)
+        made, state = self.by_hand(8, 4, 2, record=[0])  # no well-formed record
+        before = contents(state)
+        self.assertEqual(sam.step_back(made, state), 10)
+        self.assertEqual(contents(state), before)
+
+    # ---- 10
+
+    def test_broken(self):
+        for (h, used, kept), record, halt in product(self.BROKEN, (self.ONE_PLACE, self.TWO_PLACES, [0]), (0, 1)):
+            self.check_broken(*self.by_hand(h, used, kept, record, halt=halt))
+
+    def test_allowed(self):
+        """Whatever the records are, and where there is none: no call looks at the history for this."""
+        for (h, used, kept), record in product(self.ALLOWED, (self.ONE_PLACE, self.TWO_PLACES, [0], [(1 << 64) - 1])):
+            made, state = self.by_hand(h, used, kept, record)
+            self.assertEqual(sam.dwell(made, state), (60, 0))
+            self.assertEqual((sam.step(made, state), state.registers.kept), (0, kept + 1 if h else 0))
+            self.assertEqual((sam.run(made, state, 9), state.registers.kept), ((0, 1), kept + 2 if h else 0))
+            self.assertEqual(sam.dwell(made, state), (0, 40))
+
+    def test_order(self):
+        """10 before 1, 2, 8, 9 and 60, and after 11 of a run."""
+        for used, kept, registers in [(4, 0, {"halt": 1}), (4, 5, {"pc": 2}), (8, 9, {}), (8, 0, {}), (0, 1, {})]:
+            made, state = self.by_hand(8, used, kept, **registers)
+            self.check_broken(made, state)
+            self.assertEqual(sam.run(made, state, 1000001), (11, 0))
+
+    # ---- machines made by hand
+
+    def back_by_hand(self, used, kept, record):
+        """The machine after one accepted step-back."""
+        made, state = self.by_hand(8, used, kept, record)
+        self.assertEqual(sam.step_back(made, state), 0)
+        return made, state
+
+    def test_lowered_whatever_it_was(self):
+        for used, kept in [(4, 1), (4, 2), (4, 3), (4, 4), (1, 1)]:
+            _, state = self.back_by_hand(used, kept, self.ONE_PLACE)
+            self.assertEqual((state.registers.used, state.registers.kept), (used - 1, kept - 1))
+        for used, kept in [(4, 1), (4, 2), (4, 3), (4, 4), (2, 1), (2, 2)]:
+            _, state = self.back_by_hand(used, kept, self.TWO_PLACES)
+            self.assertEqual((state.registers.used, state.registers.kept), (used - 2, kept - 1))
+
+    def test_back_to_a_broken_state(self):
+        """What a step-back leaves of a number that was allowed, but not the count of the records."""
+        self.check_broken(*self.back_by_hand(2, 1, self.ONE_PLACE))  # leaves 0 with U 1
+        self.check_broken(*self.back_by_hand(4, 1, self.ONE_PLACE))  # 0 with U 3
+        self.check_broken(*self.back_by_hand(4, 1, self.TWO_PLACES))  # 0 with U 2
+        self.check_broken(*self.back_by_hand(4, 4, self.TWO_PLACES))  # 3 with U 2
+        self.check_broken(*self.back_by_hand(2, 2, self.TWO_PLACES))  # 1 with U 0
+
+    def test_back_to_a_sound_state(self):
+        made, state = self.back_by_hand(4, 3, self.TWO_PLACES)  # leaves 2 with U 2,
+        self.assertEqual((sam.step_back(made, state), state.registers.kept), (0, 1))  # then 1 with U 0
+        self.check_broken(made, state)
+        made, state = self.back_by_hand(4, 3, self.ONE_PLACE)  # 2 with U 3
+        self.assertEqual((sam.step_back(made, state), state.registers.kept), (0, 1))
+        self.assertEqual((sam.step(made, state), state.registers.kept), (0, 2))
+        made, state = self.back_by_hand(4, 4, self.ONE_PLACE)
+        self.assertEqual([sam.step_back(made, state) for _ in range(4)], [0, 0, 0, 9])
+
+    # ---- demand 3
+
+    def check_demand(self, made, state, net_steps):
+        """As a fresh reset and S minus B steps leave it, "the number of step places in use", and S minus B."""
+        n, h, kept = state.registers.n, state.registers.h, state.registers.kept
+        fresh = sam.State([9] * n, [9] * n, [9] * h, sam.Registers(kept=5))
+        self.assertEqual(sam.reset(made, fresh), 0)
+        for _ in range(net_steps):
+            self.assertEqual(sam.step(made, fresh), 0)
+        self.assertEqual(contents(state), contents(fresh))
+        self.assertEqual(kept, sum(place >> 63 for place in state.history[: state.registers.used]))
+        self.assertEqual(kept, self.walked(state))
+        self.assertEqual(kept, net_steps if h else 0)
+
+    def any_call(self, chooser, made, state):
+        """By how much an accepted call changes S minus B."""
+        kind = chooser.randrange(5)
+        if kind < 2:
+            return 1 if sam.step(made, state) == 0 else 0
+        if kind < 4:
+            return -1 if sam.step_back(made, state) == 0 else 0
+        _, steps = sam.run(made, state, chooser.randrange(12))
+        return steps
+
+    def drawn(self, chooser):
+        while True:
+            answer, table = assembled(programs.any_program(chooser))
+            if answer[0] == 0:
+                return sam.Program(table, answer[1])
+
+    def test_demand(self):
+        """ "every state reached under demand 3's premise", and from the last as many step-backs as it says."""
+        chooser = random.Random(7)
+        for h in [0, 1, 2, 5, 12, 40, 200] * 12:
+            made, n = self.drawn(chooser), chooser.choice([1, 2, 5, 16, 40])
+            state = sam.State([9] * n, [9] * n, [9] * h)
+            self.assertEqual(sam.reset(made, state), 0)
+            net_steps = 0
+            for _ in range(12):
+                net_steps += self.any_call(chooser, made, state)
+                self.check_demand(made, state, net_steps)
+            kept = state.registers.kept
+            self.assertEqual([sam.step_back(made, state) for _ in range(kept + 1)], [0] * kept + [9])
+            self.check_demand(made, state, 0 if h else net_steps)
+
+    def test_complaint(self):
+        """P12 and on: three trials can be taken back, then two, one and none."""
+        made, state = started("PUSHIMM 40 PUSHIMMF #40200000 STOREOFF 0", h=6)
+        self.assertEqual((sam.run(made, state, 3), state.registers.kept), ((50, 3), 3))
+        for kept in (2, 1, 0):
+            self.assertEqual((sam.step_back(made, state), state.registers.kept), (0, kept))
+        self.assertEqual((sam.step_back(made, state), state.registers.kept), (9, 0))
+
+
 class Soundness(unittest.TestCase):
     def broken(self, **changes):
         """The numbers of step and step-back on a state with one fault."""
@@ -1589,11 +1846,11 @@ class Soundness(unittest.TestCase):
 
     def test_registers(self):
         wrong = [("n", 3), ("n", 5), ("h", 7), ("h", 9), ("sp", 4), ("fbr", 4), ("pc", 5), ("halt", 2), ("used", 9)]
-        for name, value in wrong:
+        for name, value in wrong + [("used", 0), ("kept", 0), ("kept", 3)]:  # U is 2 and the kept number 1
             self.assertEqual(self.broken(**{name: value}), 10, name)
         self.assertEqual(self.broken(halt=1), 0)
         self.assertEqual(self.broken(tags=(3, 4)), 10)
-        self.assertEqual(self.broken(used=0), 9)
+        self.assertEqual(self.broken(used=0, kept=0), 9)
 
     def test_program_addresses(self):
         made, state = started("STOP", n=4)
@@ -1628,7 +1885,7 @@ class Soundness(unittest.TestCase):
 
     def test_rising(self):
         made, state = started("STOP", n=4, h=3)
-        state.registers.used = 3
+        state.registers.used, state.registers.kept = 3, 1
         for first, second, number in [(1, 1, 10), (2, 1, 10), (1, 3, 0)]:
             state.history[:] = [first << 53, second << 53, 1 << 63 | 2 << 22]
             self.assertEqual(sam.step_back(made, state), number)

@@ -1,5 +1,5 @@
-/* Tests of the C library through sam.h: the complaint of document 01, those of requests b and d, requests e and f, and
- * samples of every refusal. One line for each check. */
+/* Tests of the C library through sam.h: the complaint of document 01, those of requests b and d, requests e, f and g,
+ * and samples of every refusal. One line for each check. */
 #include <stdbool.h>
 #include <stdio.h>
 #include <string.h>
@@ -99,10 +99,13 @@ static void check_cell(const char *name, size_t address, uint8_t tag, uint32_t v
 static void test_complaint(void) {
     puts("the complaint: a trial over a dwell of 40 tenths, then one step-back");
     begin("PUSHIMM 40 PUSHIMMF #40200000 STOREOFF 0", 16, 6);
+    check("  kept", 0, registers[SAM_KEPT]);
     check("  step", 0, step());
+    check("  kept", 1, registers[SAM_KEPT]);
     check_cell("  before the trial", 0, SAM_INT, 40);
     check("  step", 0, step());
     check("  step", 0, step());
+    check("  kept", 3, registers[SAM_KEPT]);
     check_cell("  after the trial", 0, SAM_FLOAT, 0x40200000);
     check("  cell place", UINT64_C(0x0000000001400000), history[4]);
     check("  step place", UINT64_C(0x8020080000400000), history[5]);
@@ -113,9 +116,12 @@ static void test_complaint(void) {
     check("  PC", 2, registers[SAM_PC]);
     check("  SP", 2, registers[SAM_SP]);
     check("  U", 4, registers[SAM_U]);
+    check("  kept", 2, registers[SAM_KEPT]);
     check("  step-back", 0, step_back());
     check("  step-back", 0, step_back());
+    check("  kept", 0, registers[SAM_KEPT]);
     check("  step-back with U = 0", 9, step_back());
+    check("  kept", 0, registers[SAM_KEPT]);
 }
 
 /* ---- request b: a program got minus zero and took the wrong branch */
@@ -248,29 +254,34 @@ static struct machine {
     uint64_t registers[SAM_REGISTERS], history[SAM_HISTORY_LIMIT];
     uint32_t bits[SAM_CELL_LIMIT];
     uint8_t tags[SAM_CELL_LIMIT];
-} kept;
+} before;
 
-static void keep(void) {
-    memcpy(kept.registers, registers, sizeof kept.registers);
-    memcpy(kept.history, history, sizeof kept.history);
-    memcpy(kept.bits, bits, sizeof kept.bits);
-    memcpy(kept.tags, tags, sizeof kept.tags);
+static void remember(void) {
+    memcpy(before.registers, registers, sizeof before.registers);
+    memcpy(before.history, history, sizeof before.history);
+    memcpy(before.bits, bits, sizeof before.bits);
+    memcpy(before.tags, tags, sizeof before.tags);
 }
 
-static void check_kept(const char *name) {
-    check(name, 0, (uint64_t)(memcmp(kept.registers, registers, sizeof kept.registers) != 0));
-    check(name, 0, (uint64_t)(memcmp(kept.history, history, sizeof kept.history) != 0));
-    check(name, 0, (uint64_t)(memcmp(kept.bits, bits, sizeof kept.bits) != 0));
-    check(name, 0, (uint64_t)(memcmp(kept.tags, tags, sizeof kept.tags) != 0));
+static void check_unchanged(const char *name) {
+    check(name, 0, (uint64_t)(memcmp(before.registers, registers, sizeof before.registers) != 0));
+    check(name, 0, (uint64_t)(memcmp(before.history, history, sizeof before.history) != 0));
+    check(name, 0, (uint64_t)(memcmp(before.bits, bits, sizeof before.bits) != 0));
+    check(name, 0, (uint64_t)(memcmp(before.tags, tags, sizeof before.tags) != 0));
+}
+
+/* After a refused step: it is refused again, alone and in a run, and nothing changes. */
+static void check_refused_again(uint32_t number) {
+    remember();
+    check("  step", number, step());
+    check("  run", number, run(100));
+    check("  steps of that run", 0, told[0]);
+    check_unchanged("  nothing changed");
 }
 
 /* Where a step is refused at an ADD or SUB: nothing changes, however it is asked for. */
 static void check_sum_refused(uint64_t steps) {
-    keep();
-    check("  step", 6, step());
-    check("  run", 6, run(100));
-    check("  steps of that run", 0, told[0]);
-    check_kept("  nothing changed");
+    check_refused_again(6);
     check("  PC", steps, registers[SAM_PC]);
     check("  SP", 3, registers[SAM_SP]);
     check_cell("  cell 0", 0, SAM_INT, 5);
@@ -287,7 +298,7 @@ static void check_back_and_again(uint64_t steps) {
     check("  freed place", 0, history[used - 1]);
     check("  step", 0, step());
     check("  step", 6, step());
-    check_kept("  as before the step-back");
+    check_unchanged("  as before the step-back");
 }
 
 static void test_wrapping_addresses(void) {
@@ -511,11 +522,7 @@ static void test_refused_conversions(void) {
             check("  run", refused_conversions[i].number, run(100));
             check("  steps", refused_conversions[i].steps, told[0]);
             check("  PC", refused_conversions[i].steps, registers[SAM_PC]);
-            keep();
-            check("  step", refused_conversions[i].number, step());
-            check("  run", refused_conversions[i].number, run(100));
-            check("  steps of that run", 0, told[0]);
-            check_kept("  nothing changed");
+            check_refused_again(refused_conversions[i].number);
         }
     }
     puts("room for one place, where two are needed");
@@ -557,15 +564,15 @@ static uint32_t dwell(void) {
 
 /* The number and the tenths, and that nothing else is written. */
 static void check_dwell(const char *name, uint32_t number, uint64_t tenths) {
-    static uint64_t kept_table[SAM_TABLE_PLACES];
-    keep();
-    memcpy(kept_table, table, sizeof kept_table);
+    static uint64_t table_before[SAM_TABLE_PLACES];
+    remember();
+    memcpy(table_before, table, sizeof table_before);
     mark_told();
     check(name, number, dwell());
     check("  tenths", tenths, told[0]);
     check_told_marked(1);
-    check_kept("  nothing written");
-    check("  nothing written", 0, (uint64_t)(memcmp(kept_table, table, sizeof kept_table) != 0));
+    check_unchanged("  nothing written");
+    check("  nothing written", 0, (uint64_t)(memcmp(table_before, table, sizeof table_before) != 0));
 }
 
 /* A program, and the tenths read where it has halted. */
@@ -707,6 +714,7 @@ static void test_dwell_with_any_history(void) {
     begin("PUSHIMM 40 STOP", 4, 8);
     check("  run", 0, run(100));
     memset(history, 0xFF, 8 * sizeof history[0]);
+    registers[SAM_KEPT] = 1;
     for (uint64_t used = 1; used <= 8; used++) {
         registers[SAM_U] = used;
         check("  step-back", 10, step_back());
@@ -734,7 +742,7 @@ static void test_lengths_of_dwell(void) {
     begin("PUSHIMM 40 STOP", 4, 8);
     check("  run", 0, run(100));
     mark_told();
-    keep();
+    remember();
     for (size_t told_len = 0; told_len <= SAM_ASSEMBLE_TOLD + 1; told_len++) {
         if (told_len == 1) continue;
         check("  told", 31, dwell_with(SAM_REGISTERS, n, SAM_TABLE_PLACES, told_len));
@@ -755,7 +763,7 @@ static void test_lengths_of_dwell(void) {
     mark_told();
     check("  1,023 places", 10, dwell_with(SAM_REGISTERS, n, SAM_TABLE_PLACES - 1, 1));
     check("  tenths", 0, told[0]);
-    check_kept("  nothing written");
+    check_unchanged("  nothing written");
     check_dwell("  all of the right length", 0, 40);
 }
 
@@ -771,6 +779,7 @@ static void take_trial_back(void) {
     check_cell("  cell 0", 0, SAM_INT, 40);
     check_dwell("  not halted", 60, 0);
     check("  PUSHIMMF taken back", 0, step_back());
+    check("  kept", 1, registers[SAM_KEPT]);
     check_cell("  cell 0", 0, SAM_INT, 40);
     check_cell("  cell 1", 1, SAM_INT, 0);
     check_dwell("  not halted", 60, 0);
@@ -782,25 +791,211 @@ static void test_complaint_at_the_doors(void) {
     puts("the complaint at the doors: 40 tenths, a trial of 2.5 seconds, and back");
     begin(DOORS, 16, 16);
     check("  run", 0, run(100));
+    check("  kept", 2, registers[SAM_KEPT]);
     check_dwell("  read", 0, 40);
-    keep();
-    first = kept;
+    remember();
+    first = before;
     check("  STOP taken back", 0, step_back());
     check_dwell("  not halted", 60, 0);
     check("  assemble the trial", 0, assemble(TRIAL));
     check("  run the trial", 0, run(100));
     check("  steps", 3, told[0]);
+    check("  kept", 4, registers[SAM_KEPT]);
     check_cell("  cell 0", 0, SAM_FLOAT, 0x40200000);
     check_dwell("  read", 0, 25);
     take_trial_back();
     check("  assemble the program", 0, assemble(DOORS));
     check("  run", 0, run(100));
     check("  steps", 1, told[0]);
-    kept = first;
-    check_kept("  as the first time");
+    before = first;
+    check_unchanged("  as the first time");
     check_dwell("  read", 0, 40);
     tags[0] = SAM_FLOAT;
     check_dwell("  what the machine before left", 0, 10);
+}
+
+/* ---- request g: how many steps can be taken back */
+
+static void check_count(const char *name, uint64_t kept, uint64_t used) {
+    check(name, kept, registers[SAM_KEPT]);
+    check("  U", used, registers[SAM_U]);
+}
+
+/* Seven steps, whose records are of 2, 2, 3, 2, 1, 3 and 1 places; and U after so many of them. */
+#define SEVEN_STEPS "PUSHIMM 1 DUP SWAP ADD JUMP 5 ADDSP 2 STOP"
+
+static const uint64_t used_after[] = {0, 2, 4, 7, 9, 10, 13, 14};
+
+static void test_kept_of_steps(void) {
+    puts("the kept number after a reset, each step, and each step-back");
+    begin(SEVEN_STEPS, 16, 14);
+    check_count("  kept", 0, 0);
+    for (uint64_t kept = 1; kept <= 7; kept++) {
+        check("  step", 0, step());
+        check_count("  kept", kept, used_after[kept]);
+    }
+    check("  step with HALT 1", 1, step());
+    check_count("  kept", 7, 14);
+    for (uint64_t kept = 7; kept-- > 0;) {
+        check("  step-back", 0, step_back());
+        check_count("  kept", kept, used_after[kept]);
+    }
+    check("  step-back with U = 0", 9, step_back());
+    check_count("  kept", 0, 0);
+}
+
+static void test_kept_without_history(void) {
+    puts("the kept number with H = 0");
+    begin(SEVEN_STEPS, 16, 0);
+    for (uint64_t steps = 1; steps <= 3; steps++) {
+        check("  step", 0, step());
+        check_count("  kept", 0, 0);
+    }
+    check("  run", 0, run(100));
+    check("  steps", 4, told[0]);
+    check_count("  kept", 0, 0);
+    check("  step-back", 9, step_back());
+    check_count("  kept", 0, 0);
+}
+
+/* A run, the number that ends it, its steps, and what is kept then, on the same machine. */
+static const struct { uint64_t limit; uint32_t number; uint64_t steps, kept; } counted_runs[] = {
+    {0, 50, 0, 0}, {3, 50, 3, 3}, {0, 50, 0, 3}, {1, 50, 1, 4}, {1000001, 11, 0, 4}, {100, 0, 3, 7}, {100, 0, 0, 7},
+};
+
+/* A run of a source that is refused, with its number and its steps: those that are kept with a history. */
+static const struct { const char *source; size_t cells; uint32_t number; uint64_t steps; } refused_runs[] = {
+    {"PUSHIMM 1 PUSHIMM 2", 16, 2, 2},
+    {"PUSHIMM 1 ADD", 16, 3, 1},
+    {"PUSHIMM 1 PUSHSP ADD", 16, 4, 2},
+    {"PUSHIMM 1 PUSHIMM 0 DIV", 16, 5, 2},
+    {"PUSHSP PUSHIND", 16, 6, 1},
+    {"PUSHIMM 1 PUSHIMM 1 PUSHIMM 1", 3, 7, 2},
+    {"JUMP 1 PUSHIMM 1 PUSHIMM 1 PUSHIMM 1", 16, 8, 3}, /* records of 1, 2 and 2 places, and one of 2 over */
+    {"ADD", 16, 3, 0},
+};
+
+static void test_kept_of_runs(void) {
+    puts("the kept number after runs");
+    begin(SEVEN_STEPS, 16, 14);
+    for (size_t i = 0; i < sizeof counted_runs / sizeof counted_runs[0]; i++) {
+        check("  run", counted_runs[i].number, run(counted_runs[i].limit));
+        check("  steps", counted_runs[i].steps, told[0]);
+        check_count("  kept", counted_runs[i].kept, used_after[counted_runs[i].kept]);
+    }
+    for (size_t i = 0; i < sizeof refused_runs / sizeof refused_runs[0]; i++) {
+        printf("%s\n", refused_runs[i].source);
+        begin(refused_runs[i].source, refused_runs[i].cells, 6);
+        check("  run", refused_runs[i].number, run(100));
+        check("  steps", refused_runs[i].steps, told[0]);
+        check("  kept", refused_runs[i].steps, registers[SAM_KEPT]);
+        check_refused_again(refused_runs[i].number);
+    }
+}
+
+/* The step places among the first U: those with mark 1. */
+static uint64_t step_places(void) {
+    uint64_t count = 0;
+    for (uint64_t i = 0; i < registers[SAM_U]; i++) count += history[i] >> 63;
+    return count;
+}
+
+/* A series of calls from a reset, as a screen makes them by its keys: S and B are kept beside. */
+static void test_kept_of_series(void) {
+    uint64_t steps = 0, backs = 0;
+    puts("the kept number is S minus B, the count of step places, and that of the step-backs that are accepted");
+    begin("a: PUSHIMM 1 PUSHIMM 2 SWAP ADDSP -2 JUMP a", 16, 40);
+    for (unsigned i = 0; i < 60; i++) {
+        if (i % 7 == 3) {
+            run(i % 5);
+            steps += told[0];
+        } else if (i % 3 == 2) {
+            backs += step_back() == 0;
+        } else {
+            steps += step() == 0;
+        }
+        check("  S minus B", steps - backs, registers[SAM_KEPT]);
+        check("  step places", step_places(), registers[SAM_KEPT]);
+    }
+    for (uint64_t kept = steps - backs; kept-- > 0;) check("  step-back", 0, step_back());
+    check("  step-back", 9, step_back());
+    check_count("  kept", 0, 0);
+}
+
+/* Records made by hand, of a step with SP 1: one that wrote no cell, and one that wrote cell 0, where INT 40 stood. */
+#define STEP_PLACE (UINT64_C(1) << 63 | UINT64_C(1) << 42)
+static const uint64_t short_record[] = {STEP_PLACE}, long_record[] = {UINT64_C(40) << 19, STEP_PLACE | 1 << 22};
+
+/* A machine with such records from the top of its places in use down, and any kept number. */
+static void make_by_hand(size_t places, uint64_t used, uint64_t kept, const uint64_t *record, uint64_t size) {
+    begin("JUMP 1 STOP", 4, places);
+    for (uint64_t i = 1; i <= used; i++) history[used - i] = record[size - 1 - (i - 1) % size];
+    registers[SAM_SP] = 1;
+    registers[SAM_U] = used;
+    registers[SAM_KEPT] = kept;
+}
+
+/* 10 from every call that asks for a sound state, and nothing changed. */
+static void check_all_refused(void) {
+    remember();
+    check("  step", 10, step());
+    check("  step-back", 10, step_back());
+    for (uint64_t limit = 0; limit <= 9; limit += 9) {
+        mark_told();
+        check("  run", 10, run(limit));
+        check("  steps", 0, told[0]);
+        check_told_marked(1);
+    }
+    check("  11 before 10", 11, run(1000001));
+    check_unchanged("  nothing changed");
+    check_dwell("  dwell", 10, 0);
+}
+
+/* H, U and a kept number above U, or 0 with U above 0. */
+static const struct { size_t places; uint64_t used, kept; } broken_counts[] = {
+    {0, 0, 1}, {0, 0, UINT64_C(1) << 63}, {0, 0, UINT64_MAX}, {8, 0, 1}, {8, 0, 8}, {8, 0, UINT64_MAX}, {8, 1, 0},
+    {8, 1, 2}, {8, 4, 0}, {8, 4, 5}, {8, 4, 8}, {8, 4, 9}, {8, 4, UINT64_C(1) << 63}, {8, 4, UINT64_MAX},
+    {8, 4, (UINT64_C(1) << 32) + 4}, {8, 8, 0}, {8, 8, 9}, {8192, 8192, 0}, {8192, 8192, 8193},
+};
+
+static void test_broken_counts(void) {
+    for (size_t i = 0; i < sizeof broken_counts / sizeof broken_counts[0]; i++) {
+        printf("H = %zu, U = %llu, kept %llu\n", broken_counts[i].places, (unsigned long long)broken_counts[i].used,
+               (unsigned long long)broken_counts[i].kept);
+        for (uint64_t halt = 0; halt <= 1; halt++) {
+            make_by_hand(broken_counts[i].places, broken_counts[i].used, broken_counts[i].kept, short_record, 1);
+            registers[SAM_HALT] = halt;
+            check_all_refused();
+        }
+    }
+}
+
+/* U and a kept number that is allowed, though most are not the count of the records, of so many places; what one
+ * step-back leaves, and whether that is a broken state. */
+static const struct { uint64_t used, kept, size, used_left, kept_left; bool broken; } counts_by_hand[] = {
+    {1, 1, 1, 0, 0, false}, {2, 1, 1, 1, 0, true}, {4, 1, 1, 3, 0, true}, {4, 2, 1, 3, 1, false},
+    {4, 3, 1, 3, 2, false}, {4, 4, 1, 3, 3, false}, {2, 1, 2, 0, 0, false}, {2, 2, 2, 0, 1, true},
+    {4, 1, 2, 2, 0, true}, {4, 2, 2, 2, 1, false}, {4, 3, 2, 2, 2, false}, {4, 4, 2, 2, 3, true},
+    {8, 1, 1, 7, 0, true}, {8, 8, 1, 7, 7, false}, {8, 8, 2, 6, 7, true},
+};
+
+static void test_counts_by_hand(void) {
+    puts("a kept number that is allowed, and what a step-back leaves of it");
+    for (size_t i = 0; i < sizeof counts_by_hand / sizeof counts_by_hand[0]; i++) {
+        uint64_t used = counts_by_hand[i].used, kept = counts_by_hand[i].kept, size = counts_by_hand[i].size;
+        const uint64_t *record = size == 1 ? short_record : long_record;
+        make_by_hand(16, used, kept, record, size);
+        check_dwell("  dwell", 60, 0);
+        check("  step", 0, step());
+        check_count("  kept", kept + 1, used + 1);
+        check("  run", 0, run(9));
+        check_count("  kept", kept + 2, used + 2);
+        make_by_hand(16, used, kept, record, size);
+        check("  step-back", 0, step_back());
+        check_count("  kept", counts_by_hand[i].kept_left, counts_by_hand[i].used_left);
+        if (counts_by_hand[i].broken) check_all_refused();
+        else check("  step", 0, step());
+    }
 }
 
 /* ---- told and registers of another length */
@@ -813,7 +1008,7 @@ static uint32_t run_with(size_t registers_len, size_t told_len) {
 static void test_lengths(void) {
     static const uint8_t too_long[SAM_SOURCE_LIMIT + 1];
     const uint8_t *stop = (const uint8_t *)"STOP";
-    puts("told and registers of another length change nothing");
+    puts("told of another length changes nothing");
     begin("PUSHIMM 1 STOP", 4, 8);
     mark_told();
     for (size_t told_len = 0; told_len <= SAM_ASSEMBLE_TOLD + 1; told_len++) {
@@ -828,13 +1023,29 @@ static void test_lengths(void) {
     check("  run", 31, run_with(SAM_REGISTERS, 2));
     check_told_marked(0);
     check("  table[0]", UINT64_C(1) << 32 | 1, table[0]);
-    registers[SAM_N] = 3;
-    check("  reset", 10, sam_reset(table, SAM_TABLE_PLACES, length, registers, 6, bits, n, tags, n, history, h));
-    check("  step", 10, sam_step(table, SAM_TABLE_PLACES, length, registers, 8, bits, n, tags, n, history, h));
-    check("  back", 10, sam_step_back(table, SAM_TABLE_PLACES, length, registers, 0, bits, n, tags, n, history, h));
-    check("  run", 10, run_with(6, 1));
-    check("  N", 3, registers[SAM_N]);
-    check("  PC", 0, registers[SAM_PC]);
+}
+
+/* Of the right length each would be done. */
+static void test_lengths_of_registers(void) {
+    begin("PUSHIMM 1 STOP", 4, 8);
+    check("  step", 0, step());
+    registers[SAM_REGISTERS] = 77;
+    remember();
+    for (size_t len = 0; len <= SAM_REGISTERS + 1; len++) {
+        if (len == SAM_REGISTERS) continue;
+        printf("%zu registers\n", len);
+        check("  reset", 10, sam_reset(table, SAM_TABLE_PLACES, length, registers, len, bits, n, tags, n, history, h));
+        check("  step", 10, sam_step(table, SAM_TABLE_PLACES, length, registers, len, bits, n, tags, n, history, h));
+        check("  back", 10,
+              sam_step_back(table, SAM_TABLE_PLACES, length, registers, len, bits, n, tags, n, history, h));
+        mark_told();
+        check("  run", 10, run_with(len, 1));
+        check("  steps", 0, told[0]);
+        check_told_marked(1);
+        check_unchanged("  nothing changed");
+        check("  the ninth", 77, registers[SAM_REGISTERS]);
+    }
+    check("  step", 0, step());
 }
 
 /* ---- the machine's refusals */
@@ -885,15 +1096,19 @@ static void test_reset(void) {
     check("  no cells", 11, reset(0, 0));
     check("  1,001 cells", 11, reset(1001, 0));
     check("  8,193 places", 11, reset(1, 8193));
-    registers[SAM_N] = 9;
+    for (size_t i = 0; i < SAM_REGISTERS; i++) registers[i] = 9;
     check("  one tag too few", 11, reset_with(SAM_TABLE_PLACES, 4, 3));
-    check("  N", 0, registers[SAM_N]);
+    for (size_t i = 0; i < SAM_REGISTERS; i++) check("  zero", 0, registers[i]);
     check("  cell 0", 5, bits[0]);
     check("  11 before 10", 11, reset_with(0, 0, 0));
+    registers[SAM_KEPT] = 9;
     check("  no table", 10, reset_with(0, 4, 4));
+    check("  kept", 0, registers[SAM_KEPT]);
+    registers[SAM_KEPT] = 9;
     check("  largest", 0, reset(1000, 8192));
     check("  N", 1000, registers[SAM_N]);
     check("  H", 8192, registers[SAM_H_PLACES]);
+    check("  kept", 0, registers[SAM_KEPT]);
     check("  cell 0", 0, bits[0]);
 }
 
@@ -920,6 +1135,9 @@ static void test_broken(void) {
     broken("  FBR", &registers[SAM_FBR], 4);
     broken("  HALT", &registers[SAM_HALT], 2);
     broken("  U", &registers[SAM_U], 9);
+    broken("  U below the kept number", &registers[SAM_U], 0);
+    broken("  kept above U", &registers[SAM_KEPT], 3);
+    broken("  kept 0 with U above 0", &registers[SAM_KEPT], 0);
     broken("  length", &length, 1025);
     broken("  code", &table[0], UINT64_C(52) << 32);
     broken("  ITOF with an operand", &table[0], UINT64_C(50) << 32 | 1);
@@ -1131,7 +1349,14 @@ int main(void) {
     test_dwell_with_any_history();
     test_lengths_of_dwell();
     test_complaint_at_the_doors();
+    test_kept_of_steps();
+    test_kept_without_history();
+    test_kept_of_runs();
+    test_kept_of_series();
+    test_broken_counts();
+    test_counts_by_hand();
     test_lengths();
+    test_lengths_of_registers();
     test_steps();
     test_reset();
     test_broken();

@@ -1,5 +1,5 @@
-"""An interpreter of document 01 with requests a, b, d, e and f of document 02, written from the documents and their
-settled readings, to compare the proved one with."""
+"""An interpreter of document 01 with requests a, b, d, e, f and g of document 02, written from the documents and
+their settled readings, to compare the proved one with."""
 
 from .console import cell_line, console
 from .dwell import dwell

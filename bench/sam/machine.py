@@ -1,4 +1,5 @@
-"""Reset, step, step-back and run: document 01, "Numbers given back" and "History places"."""
+"""Reset, step, step-back and run: document 01, "Numbers given back" and "History places", and request g of document
+02."""
 
 from dataclasses import dataclass, field, replace
 
@@ -19,6 +20,7 @@ class Registers:
     fbr: int = 0
     halt: int = 0
     used: int = 0
+    kept: int = 0  # how many steps can be taken back
 
 
 @dataclass
@@ -59,6 +61,12 @@ def registers_sound(registers, length):
     return r.sp < r.n and r.fbr < r.n and r.pc <= length and r.halt in (0, 1) and r.used <= r.h
 
 
+def kept_sound(registers):
+    """Request g: "10 also when the kept number is above U, or is 0 with U above 0" """
+    used, kept = registers.used, registers.kept
+    return kept <= used and not (kept == 0 and used > 0)
+
+
 def slices_sound(state):
     """ "a kept N or H outside "Sizes", or a lent slice not of its N or H" """
     n, h = state.registers.n, state.registers.h
@@ -76,6 +84,7 @@ def sound(program, state):
         table_sound(program.table, program.length)
         and slices_sound(state)
         and registers_sound(state.registers, program.length)
+        and kept_sound(state.registers)
         and all(cell_sound(tag, bits, program.length) for tag, bits in zip(state.tags, state.bits))
     )
 
@@ -188,16 +197,17 @@ def plain_step(program, state):
     except Refusal as refusal:
         return refusal.args[0]
     registers = state.registers
-    used = registers.used
+    used, kept = registers.used, registers.kept
     if registers.h > 0:
         if registers.h - used < len(move.writes) + 1:
             return 8
         record = record_of(move, state)
         state.history[used : used + len(record)] = record
         used += len(record)
+        kept += 1
     for write in move.writes:
         state.set_cell(*write)
-    state.registers = replace(registers, pc=move.pc, sp=move.sp, fbr=move.fbr, halt=move.halt, used=used)
+    state.registers = replace(registers, pc=move.pc, sp=move.sp, fbr=move.fbr, halt=move.halt, used=used, kept=kept)
     return 0
 
 
@@ -224,7 +234,8 @@ def run(program, state, limit):
 
 
 def step_back(program, state):
-    """ "Step-back: 10, then 9." """
+    """ "Step-back: 10, then 9." In a sound state with U above 0 the kept number is above 0, and is lowered whatever it
+    was: it is not held to the history."""
     if not sound(program, state):
         return 10
     registers = state.registers
@@ -236,5 +247,6 @@ def step_back(program, state):
     for cell in record.cells:
         state.set_cell(*cell)
     state.history[record.start : registers.used] = [0] * (len(record.cells) + 1)
-    state.registers = replace(registers, pc=record.pc, sp=record.sp, fbr=record.fbr, halt=0, used=record.start)
+    back = replace(registers, pc=record.pc, sp=record.sp, fbr=record.fbr, halt=0)
+    state.registers = replace(back, used=record.start, kept=registers.kept - 1)
     return 0
