@@ -23,13 +23,10 @@ use Rattle.promises.proofs.Demand3Trail.{State, Good, Trail, back-empty
 use Rattle.promises.proofs.Demand3Reset.{Accepted, left, reset-accepted, good-reset, reset-empty}
 use Rattle.promises.proofs.Demand3Kept.{stateOf, Kept, keep-back, keep-series}
 
--- what one step-back does to S and to the kept number: both move by one, or nothing was kept
-pub record OneBack (s t : Session) : Type 0 where
-  pub by : ℕ
-  pub one : by ≤ 1
-  pub counted : t .undone ≡ s .undone + by
-  pub lowered : s .registers .kept ≡ t .registers .kept + by
-  pub refused : by ≡ 0 → s .registers .kept ≡ 0
+-- what one step-back does to B and to the kept number: nothing, and no step was kept; or both move by one
+data OneBack (s t : Session) : Type 0 where
+  refused : t .undone ≡ s .undone → t .registers .kept ≡ 0 → s .registers .kept ≡ 0 → OneBack s t
+  accepted : t .undone ≡ s .undone + 1 → s .registers .kept ≡ t .registers .kept + 1 → OneBack s t
 
 module _ (p : Program) (s₀ : State) (good₀ : Good p s₀) (empty : s₀ .registers .used ≡ 0) where
   -- a refused one: no place is used, so that no step is kept
@@ -37,8 +34,8 @@ module _ (p : Program) (s₀ : State) (good₀ : Good p s₀) (empty : s₀ .reg
       → Back.back p (s .registers) (s .memory) ≡ unchanged (s .memory) NoHistory → OneBack s (ask p s back)
   one-refused s g u e =
       let few : s .registers .kept ≤ s .registers .used = sound-facts p (s .registers) (s .memory) (g .sound) .kept in
-      subst (λ (o : Stepped). OneBack s (backed s o)) (sym e)
-      (record { by = 0; one = omega arith; counted = refl; lowered = omega arith; refused = λ q. omega (arith, few, u) })
+      let none : s .registers .kept ≡ 0 = omega (arith, few, u) in
+      subst (λ (o : Stepped). OneBack s (backed s o)) (sym e) (refused (omega arith) none none)
 
   one-back : (s : Session) (k : ℕ) → Trail p s₀ k (stateOf s) → (b : Bool) → eqb (s .registers .h) 0 ≡ b → OneBack s (ask p s back)
   one-back s zero q b x =
@@ -54,26 +51,19 @@ module _ (p : Program) (s₀ : State) (good₀ : Good p s₀) (empty : s₀ .reg
       let some = pos-of-ne-zero (eqb-false _ _ x) in
       let same : s .registers .h ≡ t .0 .registers .h = ap (λ (y : State). y .registers .h) (t .4) in
       subst (λ (o : Stepped). OneBack s (backed s o)) (sym (back-trail p s₀ good₀ k (stateOf s) t some))
-      (record {
-        by = 1;
-        one = omega arith;
-        counted = refl;
-        lowered =
-            ap (λ (y : State). y .registers .kept) (t .4)
-            ∙ ap (λ (b : Bool). grown b (t .0 .registers .kept) 1) (lt-ltb 0 (t .0 .registers .h) (omega (arith, same, some)));
-        refused = λ q. absurd (let z : ⊥ = omega (arith, q) in z);
-      })
+      (accepted refl
+      (ap (λ (y : State). y .registers .kept) (t .4)
+      ∙ ap (λ (b : Bool). grown b (t .0 .registers .kept) 1) (lt-ltb 0 (t .0 .registers .h) (omega (arith, same, some)))))
 
   backs-kept : (k : ℕ) (s : Session) → Kept p s₀ s → series p (replicate k back) s .undone ≡ s .undone + min k (s .registers .kept)
   backs-kept zero s w = omega arith
   backs-kept (suc k) s w =
       let t : Session = ask p s back in
-      let o : OneBack s t = one-back s (w .far) (w .trail) (eqb (s .registers .h) 0) refl in
-      backs-kept k t (keep-back p s₀ good₀ empty s w) ∙ one-more (s .undone) (t .undone) (s .registers .kept) (t .registers .kept) k (o .by) (o .one) (o .counted) (o .lowered) (o .refused)
+      backs-kept k t (keep-back p s₀ good₀ empty s w) ∙ one-more s t (one-back s (w .far) (w .trail) (eqb (s .registers .h) 0) refl)
     where
-      one-more : (b b′ n n′ k by : ℕ) → by ≤ 1 → b′ ≡ b + by → n ≡ n′ + by → (by ≡ 0 → n ≡ 0) → b′ + min k n′ ≡ b + min (suc k) n
-      one-more b b′ n n′ k zero one c l r = let z : n ≡ 0 = r refl in omega (arith, z, l, c)
-      one-more b b′ n n′ k (suc by) one c l r = omega (arith, one, l, c)
+      one-more : (s t : Session) → OneBack s t → t .undone + min k (t .registers .kept) ≡ s .undone + min (suc k) (s .registers .kept)
+      one-more s t (refused b e n) = omega (arith, b, e, n)
+      one-more s t (accepted b e) = omega (arith, b, e)
 
 pub takes-back : (p : Program) (m : Memory) → Reset.reset p m .answer .begun ≡ Ready → (qs : List Request) → TakesBack p (series p qs (fresh p m))
 takes-back p m ready qs k =
