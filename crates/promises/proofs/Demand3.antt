@@ -3,14 +3,14 @@
 -- the kept number is the number of step places in use, and S minus B, or 0 with H = 0. For every program, every lent memory that a reset accepts,
 -- of any N and H, H = 0 among them, and every series, refused requests among them: `demand3`. What it says is specs/Series.antt, over the
 -- definitions that the contracts of the calls cite. Assumes nothing.
-use Prim.Native.Nat.{ℕ, zero, suc, _+_, _-_}
-use mathlib.Core.Path.{_≡_, refl, sym, ap, _∙_, subst}
-use mathlib.Core.Bool.{Bool, true, false, _||_, cond, or-true}
+use Prim.Native.Nat.{ℕ, _-_}
+use mathlib.Core.Path.{_≡_, refl, sym, ap, ap₂, _∙_, subst}
+use mathlib.Core.Bool.{Bool, true, false, _||_, cond}
 use mathlib.Core.List.{List}
 use native.Mathlib.Nat.{pos-of-ne-zero}
 use native.Mathlib.Omega.{arith}
 use lib.Dec.{ltb, eqb}
-use borrow.Author.Tests.{eqb-true, eqb-false, eq-eqb, ne-eqb}
+use borrow.Author.Tests.{eqb-false, eq-eqb, ne-eqb}
 use Rattle.rules.specs.Table.{Program}
 use Rattle.rules.specs.State.{Memory}
 use Rattle.rules.specs.Numbers.{machineNumber, numberOfStep}
@@ -21,7 +21,7 @@ use Rattle.rules.specs.declared.MachineRefusal.the-variants.{NoHistory}
 use Rattle.rules.specs.declared.Begun.the-variants.{Ready}
 use Rattle.promises.specs.Series.{Request, Session, series, fresh, Promised}
 use Rattle.promises.proofs.Runs.{standing, afterSteps}
-use Rattle.promises.proofs.Demand3Trail.{State, Good, Trail, back-empty, back-none, good-trail, steps-trail, back-trail}
+use Rattle.promises.proofs.Demand3Trail.{State, Good, steps-trail, BackOn, nothing, one, back-on}
 use Rattle.promises.proofs.Demand3Reset.{Accepted, left, reset-accepted, good-reset, reset-empty}
 use Rattle.promises.proofs.Demand3Kept.{stateOf, Kept, keep-series}
 use Rattle.promises.proofs.Demand3Number.{in-use-trail, kept-trail}
@@ -32,17 +32,19 @@ answered none = cond none (machineNumber NoHistory) 0
 
 module _ (p : Program) (s₀ : State) (good₀ : Good p s₀) (empty : s₀ .registers .used ≡ 0) where
   -- a step-back is accepted exactly where the trail has a step to take back, and the machine a history to do it by
-  refused-when : (s : Session) (k : ℕ) → Trail p s₀ k (stateOf s) → s .made ≡ s .undone + k → (b : Bool) → eqb (s .registers .h) 0 ≡ b
-      → numberOfStep (back p (s .registers) (s .memory) .answer) ≡ answered (b || eqb (s .made) (s .undone))
-  refused-when s zero q c b x =
-      ap (λ (o : Stepped). numberOfStep (o .answer))
-      (back-empty p (stateOf s) (good-trail p s₀ good₀ 0 (stateOf s) q) (ap (λ (t : State). t .registers .used) q ∙ empty))
-      ∙ sym (ap answered (ap (λ (y : Bool). b || y) (eq-eqb (s .made) (s .undone) (omega (arith, c))) ∙ or-true b))
-  refused-when s (suc k) t c true x =
-      ap (λ (o : Stepped). numberOfStep (o .answer)) (back-none p (stateOf s) (good-trail p s₀ good₀ (suc k) (stateOf s) t) (eqb-true _ _ x))
-  refused-when s (suc k) t c false x =
-      ap (λ (o : Stepped). numberOfStep (o .answer)) (back-trail p s₀ good₀ k (stateOf s) t (pos-of-ne-zero (eqb-false _ _ x)))
-      ∙ sym (ap answered (ne-eqb (s .made) (s .undone) (λ e. omega (arith, c, e))))
+  refused-when : (s : Session) (w : Kept p s₀ s) → BackOn p s₀ (w .far) (stateOf s)
+      → numberOfStep (back p (s .registers) (s .memory) .answer) ≡ answered (eqb (s .registers .h) 0 || eqb (s .made) (s .undone))
+  refused-when s w (nothing u x e) =
+      ap (λ (o : Stepped). numberOfStep (o .answer)) e ∙ sym (ap answered (go (eqb (s .registers .h) 0) refl))
+    where
+      go : (b : Bool) → eqb (s .registers .h) 0 ≡ b → (b || eqb (s .made) (s .undone)) ≡ true
+      go true y = refl
+      go false y =
+          let far : w .far ≡ 0 = x (pos-of-ne-zero (eqb-false _ _ y)) in
+          eq-eqb (s .made) (s .undone) (omega (arith, w .count, far))
+  refused-when s w (one k t f far trail at h e) =
+      ap (λ (o : Stepped). numberOfStep (o .answer)) e
+      ∙ sym (ap answered (ap₂ _||_ (ne-eqb (s .registers .h) 0 (λ z. omega (arith, h, z))) (ne-eqb (s .made) (s .undone) (λ z. omega (arith, w .count, far, z)))))
 
   -- a kept session is where S minus B steps lead
   after-kept : (s : Session) → Kept p s₀ s
@@ -52,9 +54,9 @@ module _ (p : Program) (s₀ : State) (good₀ : Good p s₀) (empty : s₀ .reg
       subst (λ (n : ℕ). afterSteps p n (s₀ .registers) (s₀ .memory) ≡ standing n (s .registers) (s .memory)) far
       (steps-trail p s₀ good₀ (w .far) (stateOf s) (w .trail))
 
-  -- its kept number: the step places in use, and S minus B or 0
-  kept-kept : (s : Session) → Kept p s₀ s → s .registers .kept ≡ cond (ltb 0 (s .registers .h)) (s .made - s .undone) 0
-  kept-kept s w =
+  -- and its kept number is S minus B, or 0 with H = 0
+  kept-number : (s : Session) → Kept p s₀ s → s .registers .kept ≡ cond (ltb 0 (s .registers .h)) (s .made - s .undone) 0
+  kept-number s w =
       let far : w .far ≡ s .made - s .undone = omega (arith, w .count) in
       kept-trail p s₀ good₀ empty (w .far) (stateOf s) (w .trail) ∙ ap (λ (n : ℕ). cond (ltb 0 (s .registers .h)) n 0) far
 
@@ -72,7 +74,7 @@ demand3 p m ready qs =
       registers = ap (λ (t : Session). t .registers) (sym same);
       memory = ap (λ (t : Session). t .memory) (sym same);
       steps = ap (λ (t : Session). t .made) same;
-      refused = refused-when p s₀ good₀ empty s (w .far) (w .trail) (w .count) (eqb (s .registers .h) 0) refl;
+      refused = refused-when p s₀ good₀ empty s w (back-on p s₀ good₀ empty (w .far) (stateOf s) (w .trail));
       in-use = in-use-trail p s₀ good₀ empty (w .far) (stateOf s) (w .trail);
-      kept = kept-kept p s₀ good₀ empty s w;
+      kept = kept-number p s₀ good₀ empty s w;
     }

@@ -1,27 +1,24 @@
 -- What every request of a series keeps: the session lies on a trail of accepted steps from the reset, as long as the steps made less the
 -- step-backs. Assumes nothing.
 use Prim.Native.Nat.{ℕ, zero, suc, _+_}
-use mathlib.Core.Path.{_≡_, refl, sym, ap, _∙_, subst}
+use mathlib.Core.Path.{_≡_, refl, sym, subst}
 use mathlib.Core.Bool.{Bool, true, false}
 use mathlib.Core.List.{List, [], _∷_}
-use native.Mathlib.Nat.{pos-of-ne-zero}
 use native.Mathlib.Omega.{arith}
-use lib.Dec.{leb, eqb}
+use lib.Dec.{leb}
 use lib.ListN.{replicate}
-use borrow.Author.Tests.{leb-true, eqb-true, eqb-false}
+use borrow.Author.Tests.{leb-true}
 use Rattle.rules.specs.Sizes.{maxLimit}
 use Rattle.rules.specs.Table.{Program}
-use Rattle.rules.specs.Step.{Stepped, unchanged, judged, carried}
-use Rattle.rules.specs.Back as Back
+use Rattle.rules.specs.Step.{Stepped, judged, carried}
 use Rattle.rules.specs.Run.{Ran}
 use Rattle.rules.specs.Run as Run
 use Rattle.rules.specs.declared.Decision.{Decision}
 use Rattle.rules.specs.declared.Decision.the-variants.{Does, Refuses}
-use Rattle.rules.specs.declared.MachineRefusal.the-variants.{NoHistory}
 use Rattle.rules.proofs.Runs.{run-long}
 use Rattle.promises.specs.Series.{Request, step, run, back, Session, stepped, backed, ran, ask, series}
 use Rattle.promises.proofs.Runs.{run-within}
-use Rattle.promises.proofs.Demand3Trail.{State, Good, Trail, step-good, back-empty, back-none, good-trail, back-trail}
+use Rattle.promises.proofs.Demand3Trail.{State, Good, Trail, step-good, good-trail, BackOn, nothing, one, back-on}
 
 -- where a session stands
 abbrev pub stateOf : Session → State
@@ -52,26 +49,16 @@ module _ (p : Program) (s₀ : State) (good₀ : Good p s₀) (empty : s₀ .reg
 
   -- ---- a step-back
 
-  keep-nothing : (s : Session) → Kept p s₀ s → Back.back p (s .registers) (s .memory) ≡ unchanged (s .memory) NoHistory
-      → Kept p s₀ (ask p s back)
-  keep-nothing s w e =
+  keep-backed : (s : Session) (w : Kept p s₀ s) → BackOn p s₀ (w .far) (stateOf s) → Kept p s₀ (ask p s back)
+  keep-backed s w (nothing u x e) =
       subst (λ (o : Stepped). Kept p s₀ (backed s o)) (sym e)
       (record { far = w .far; trail = w .trail; count = omega (arith, w .count) })
-
-  keep-undone : (s : Session) (k : ℕ) → Trail p s₀ k (stateOf s) → s .made ≡ s .undone + k → (b : Bool) → eqb (s .registers .h) 0 ≡ b
-      → Kept p s₀ (ask p s back)
-  keep-undone s zero q c b x =
-      keep-nothing s (record { far = 0; trail = q; count = c })
-      (back-empty p (stateOf s) (good-trail p s₀ good₀ 0 (stateOf s) q) (ap (λ (t : State). t .registers .used) q ∙ empty))
-  keep-undone s (suc k) t c true x =
-      keep-nothing s (record { far = suc k; trail = t; count = c })
-      (back-none p (stateOf s) (good-trail p s₀ good₀ (suc k) (stateOf s) t) (eqb-true _ _ x))
-  keep-undone s (suc k) t c false x =
-      subst (λ (o : Stepped). Kept p s₀ (backed s o)) (sym (back-trail p s₀ good₀ k (stateOf s) t (pos-of-ne-zero (eqb-false _ _ x))))
-      (record { far = k; trail = t .2; count = omega (arith, c) })
+  keep-backed s w (one k t f far trail at h e) =
+      subst (λ (o : Stepped). Kept p s₀ (backed s o)) (sym e)
+      (record { far = k; trail = trail; count = omega (arith, w .count, far) })
 
   pub keep-back : (s : Session) → Kept p s₀ s → Kept p s₀ (ask p s back)
-  keep-back s w = keep-undone s (w .far) (w .trail) (w .count) (eqb (s .registers .h) 0) refl
+  keep-back s w = keep-backed s w (back-on p s₀ good₀ empty (w .far) (stateOf s) (w .trail))
 
   -- ---- a run: as many steps as it tells, or one refused at its entry, which leaves everything
 

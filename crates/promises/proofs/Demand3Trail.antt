@@ -1,10 +1,12 @@
 -- The states that accepted steps reach from a good state, and what a step-back does there: it goes back by one of them. Assumes nothing.
 use Prim.Native.Nat.{ℕ, zero, suc, _≤_, _<_}
 use mathlib.Core.Path.{_≡_, refl, sym, ap, _∙_, subst}
-use mathlib.Core.Bool.{true}
+use mathlib.Core.Bool.{Bool, true, false}
+use native.Mathlib.Nat.{pos-of-ne-zero}
 use native.Mathlib.Numerals.{add-one}
 use native.Mathlib.Omega.{arith}
-use borrow.Author.Tests.{eq-eqb}
+use lib.Dec.{eqb}
+use borrow.Author.Tests.{eq-eqb, eqb-true, eqb-false}
 use Rattle.rules.specs.Table.{Program}
 use Rattle.rules.specs.State.{Memory, sound}
 use Rattle.rules.specs.Commit.{registersOf, memoryOf}
@@ -59,15 +61,9 @@ module _ (p : Program) (s : State) (g : Good p s) where
       }
 
   -- "9: step-back with U = 0"
-  pub back-empty : s .registers .used ≡ 0 → back p (s .registers) (s .memory) ≡ unchanged (s .memory) NoHistory
+  back-empty : s .registers .used ≡ 0 → back p (s .registers) (s .memory) ≡ unchanged (s .memory) NoHistory
   unfolding back plainBack
   back-empty u = rw (g .sound, eq-eqb (s .registers .used) 0 u) refl
-
-  -- "H = 0 keeps no history"
-  pub back-none : s .registers .h ≡ 0 → back p (s .registers) (s .memory) ≡ unchanged (s .memory) NoHistory
-  back-none h =
-      let u : s .registers .used ≤ s .registers .h = sound-facts p (s .registers) (s .memory) (g .sound) .used in
-      back-empty (omega arith)
 
 -- ---- trails
 
@@ -96,7 +92,7 @@ module _ (p : Program) (s₀ : State) (good₀ : Good p s₀) where
       ∙ ap (λ (x : State). standing (suc k) (x .registers) (x .memory)) (sym (w .4))
 
   -- with history, a step-back goes back by one
-  pub back-trail : (k : ℕ) (s : State) (w : Trail p s₀ (suc k) s) → 0 < s .registers .h
+  back-trail : (k : ℕ) (s : State) (w : Trail p s₀ (suc k) s) → 0 < s .registers .h
       → back p (s .registers) (s .memory) ≡ record { answer = Next (w .0 .registers); memory = w .0 .memory }
   back-trail k s w h =
       let t : State = w .0 in
@@ -104,3 +100,28 @@ module _ (p : Program) (s₀ : State) (good₀ : Good p s₀) where
       let kept : s .registers .h ≡ t .registers .h = ap (λ (x : State). x .registers .h) (w .4) in
       ap (λ (x : State). back p (x .registers) (x .memory)) (w .4)
       ∙ inverse p (t .registers) (t .memory) (w .1) (g .sound) (g .narrow) (g .blank) (omega arith) (w .3)
+
+-- what a step-back does in a state at the end of a trail of k steps: nothing, with 9, where no step is left or H is 0; or it goes back by one of them
+pub data BackOn (p : Program) (s₀ : State) (k : ℕ) (s : State) : Type 0 where
+  nothing : s .registers .used ≡ 0 → (0 < s .registers .h → k ≡ 0) → back p (s .registers) (s .memory) ≡ unchanged (s .memory) NoHistory
+      → BackOn p s₀ k s
+  one : (j : ℕ) (t : State) (e : Effect) → k ≡ suc j → Trail p s₀ j t → s ≡ committed t e → 0 < s .registers .h
+      → back p (s .registers) (s .memory) ≡ record { answer = Next (t .registers); memory = t .memory } → BackOn p s₀ k s
+
+pub back-on : (p : Program) (s₀ : State) → Good p s₀ → s₀ .registers .used ≡ 0 → (k : ℕ) (s : State) → Trail p s₀ k s → BackOn p s₀ k s
+back-on p s₀ good₀ empty zero s q =
+    let g : Good p s = good-trail p s₀ good₀ 0 s q in
+    let u : s .registers .used ≡ 0 = ap (λ (t : State). t .registers .used) q ∙ empty in
+    nothing u (λ h. refl) (back-empty p s g u)
+back-on p s₀ good₀ empty (suc k) s w = go (eqb (s .registers .h) 0) refl
+  where
+    go : (b : Bool) → eqb (s .registers .h) 0 ≡ b → BackOn p s₀ (suc k) s
+    go true x =
+        let g : Good p s = good-trail p s₀ good₀ (suc k) s w in
+        let none : s .registers .h ≡ 0 = eqb-true _ _ x in
+        let low : s .registers .used ≤ s .registers .h = sound-facts p (s .registers) (s .memory) (g .sound) .used in
+        let u : s .registers .used ≡ 0 = omega arith in
+        nothing u (λ h. absurd (let z : ⊥ = omega (arith, h, none) in z)) (back-empty p s g u)
+    go false x =
+        let some : 0 < s .registers .h = pos-of-ne-zero (eqb-false _ _ x) in
+        one k (w .0) (w .1) refl (w .2) (w .4) some (back-trail p s₀ good₀ k s w some)

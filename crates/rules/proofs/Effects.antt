@@ -31,7 +31,7 @@ use Rattle.rules.specs.declared.Decision.{Decision}
 use Rattle.rules.specs.declared.Decision.the-variants.{Does, Refuses}
 use Rattle.rules.specs.declared.MachineRefusal.{MachineRefusal}
 use Rattle.rules.specs.declared.MachineRefusal.the-variants.{TooFewValues}
-use Rattle.rules.proofs.Tests.{either, and-left, and-right, or-where, every-at}
+use Rattle.rules.proofs.Tests.{either, and-left, and-right, implies-true, every-at}
 use Rattle.rules.proofs.Table.{place-sound}
 use Rattle.rules.proofs.Fair.{FairCell, FairCells, Sound, Going, Fair}
 
@@ -42,7 +42,7 @@ pub fair-cell : (count t b : ℕ) → soundCell count t b ≡ true → FairCell 
 fair-cell count t b h =
     record {
       tag = leb-true t 3 (and-left (leb t 3) (not (eqb t PA) || leb b count) h);
-      pa = λ q. leb-true b count (or-where (eqb t PA) (leb b count) (and-right (leb t 3) (not (eqb t PA) || leb b count) h) (eq-eqb t PA q));
+      pa = λ q. leb-true b count (implies-true (eqb t PA) (leb b count) (and-right (leb t 3) (not (eqb t PA) || leb b count) h) (eq-eqb t PA q));
     }
 
 -- INT, FLOAT and MA hold any bits
@@ -77,7 +77,7 @@ sound-facts p r m h =
       halt = leb-true _ _ (at 10);
       used = leb-true _ _ (at 11);
       kept = leb-true _ _ (at 12);
-      none = λ q. eqb-true _ _ (or-where _ _ (at 13) (eq-eqb _ _ q));
+      none = λ q. eqb-true _ _ (implies-true _ _ (at 13) (eq-eqb _ _ q));
       cells = fair-cells (p .count) (m .tags) (m .bits) (tags ∙ sym bits) (at 14);
     }
 
@@ -198,7 +198,7 @@ place-aims : (count place : ℕ) → soundPlace count place ≡ true → aims (a
 unfolding soundPlace kindOf actionOf aimed
 place-aims count place h q =
     within-target (kindOf (codeOf place)) count (operandOf place)
-    (or-where (aims (actionOf (codeOf place))) (isTarget (kindOf (codeOf place))) (row-aimed (codeOf place)) q)
+    (implies-true (aims (actionOf (codeOf place))) (isTarget (kindOf (codeOf place))) (row-aimed (codeOf place)) q)
     (and-right (ltb (codeOf place) codes) (within (kindOf (codeOf place)) count (operandOf place)) h)
 
 -- ---- the effects, each fair where its new SP is below N

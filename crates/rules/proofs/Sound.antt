@@ -26,7 +26,7 @@ use Rattle.rules.specs.declared.Decision.the-variants.{Does, Refuses}
 use Rattle.rules.specs.declared.MachineRefusal.the-variants.{Broken, AlreadyHalted, AtEnd}
 use Rattle.rules.specs.declared.Step.the-variants.{Next}
 use Rattle.rules.proofs.Zeros.{zeros-at}
-use Rattle.rules.proofs.Tests.{where-or}
+use Rattle.rules.proofs.Tests.{to-implies}
 use Rattle.rules.proofs.Splice.{length-part, length-splice}
 use Rattle.rules.proofs.Fair.{FairCell, FairCells, Sound, Fair}
 use Rattle.rules.proofs.Effects.{fair-plain, sound-facts, judged-going, fair-judged}
@@ -96,7 +96,7 @@ module _ (m : Memory) (e : Effect) (ht : e .at + e .count ≤ length (m .tags)) 
 
 -- not "a PA cell above length"
 pub pa-sound : (t b count : ℕ) → (t ≡ PA → b ≤ count) → (not (eqb t PA) || leb b count) ≡ true
-pa-sound t b count h = where-or (eqb t PA) (leb b count) (λ q. le-leb b count (h (eqb-true t PA q)))
+pa-sound t b count h = to-implies (eqb t PA) (leb b count) (λ q. le-leb b count (h (eqb-true t PA q)))
 
 pub cell-sound : (count : ℕ) (c : Cell) → FairCell count c → soundCell count (c .tag) (c .bits) ≡ true
 cell-sound count c f = ap₂ _&&_ (le-leb (c .tag) 3 (f .tag)) (pa-sound (c .tag) (c .bits) count (f .pa))
@@ -123,7 +123,7 @@ facts-sound p r m s =
       le-leb _ _ (s .halt),
       le-leb _ _ (s .used),
       le-leb _ _ (s .kept),
-      where-or (eqb (r .kept) 0) (eqb (r .used) 0) (λ q. eq-eqb _ _ (s .none (eqb-true _ _ q))),
+      to-implies (eqb (r .kept) 0) (eqb (r .used) 0) (λ q. eq-eqb _ _ (s .none (eqb-true _ _ q))),
       cells-sound (p .count) (m .tags) (m .bits) (s .cells),
     )
 

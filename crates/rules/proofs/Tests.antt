@@ -46,14 +46,14 @@ pub or-right : (a b : Bool) → (a || b) ≡ false → b ≡ false
 or-right true b h = absurd (true≢false h)
 or-right false b h = h
 
--- a test that is asked for only where another holds
-pub or-where : (a b : Bool) → (not a || b) ≡ true → a ≡ true → b ≡ true
-or-where true b h q = h
-or-where false b h q = absurd (false≢true q)
+-- `not a || b`: the second is asked for only where the first holds
+pub implies-true : (a b : Bool) → (not a || b) ≡ true → a ≡ true → b ≡ true
+implies-true true b h q = h
+implies-true false b h q = absurd (false≢true q)
 
-pub where-or : (a b : Bool) → (a ≡ true → b ≡ true) → (not a || b) ≡ true
-where-or true b h = h refl
-where-or false b h = refl
+pub to-implies : (a b : Bool) → (a ≡ true → b ≡ true) → (not a || b) ≡ true
+to-implies true b h = h refl
+to-implies false b h = refl
 
 -- ---- every test of a list
 

@@ -1,4 +1,4 @@
--- Two parts of a state's tests, and the tests of a reset by lengths: what one function of this crate judges each. Assumes nothing.
+-- Parts of a state's tests, and the tests of a reset by lengths: what one function of this crate judges each. Assumes nothing.
 use Prim.Native.Nat.{ℕ, _≤_}
 use mathlib.Core.Path.{_≡_}
 use mathlib.Core.Bool.{Bool, not, _||_}
@@ -20,7 +20,11 @@ keptSizes r bits tags history =
     ∷ eqb history (r .h)
     ∷ []
 
--- "SP or FBR not below N; PC above length; HALT not 0 or 1; U above H", and "the kept number is above U, or is 0 with U above 0" (02 g)
+-- not "the kept number is above U, or is 0 with U above 0" (02 g)
+abbrev pub keptWithin : (used kept : ℕ) → List Bool
+keptWithin used kept = leb kept used ∷ (not (eqb kept 0) || eqb used 0) ∷ []
+
+-- "SP or FBR not below N; PC above length; HALT not 0 or 1; U above H", and the kept number
 abbrev pub registersWithin : ℕ → Registers → List Bool
 registersWithin count r =
     ltb (r .sp) (r .n)
@@ -28,9 +32,7 @@ registersWithin count r =
     ∷ leb (r .pc) count
     ∷ leb (r .halt) 1
     ∷ leb (r .used) (r .h)
-    ∷ leb (r .kept) (r .used)
-    ∷ (not (eqb (r .kept) 0) || eqb (r .used) 0)
-    ∷ []
+    ∷ keptWithin (r .used) (r .kept)
 
 -- "N or H outside "Sizes", or cells and tags of unequal count", by the lengths of bits, tags and history
 abbrev pub startSizes : ℕ → ℕ → ℕ → List Bool

@@ -11,7 +11,7 @@ ghost use Rattle.rules.specs.Lists.{every};
 ghost use Rattle.rules.specs.Table.{program};
 ghost use Rattle.rules.specs.State.{memory, soundCell, soundCells, sound};
 ghost use Rattle.rules.specs.Reset.{cleared, reset};
-ghost use Rattle.state.specs.Parts.{keptSizes, registersWithin, startSizes};
+ghost use Rattle.state.specs.Parts.{keptSizes, keptWithin, registersWithin, startSizes};
 ghost use Rattle.state.specs.Outcomes.{started};
 
 // Whether N and H are within "Sizes", and the lent slices, of these lengths, are of them.
@@ -36,6 +36,19 @@ fn has_kept_sizes(r: Registers, bits: usize, tags: usize, history: usize) -> boo
     history == r.h
 }
 
+// Whether so many steps may be kept with so many places used.
+fn has_kept_within(used: usize, kept: usize) -> bool
+    ensures { λ a. ⌜ a ≡ every (keptWithin used kept) ⌝ }
+{
+    if used < kept {
+        return false;
+    }
+    if kept != 0 {
+        return true;
+    }
+    used == 0
+}
+
 // Whether SP, FBR, PC, HALT, U and the kept number are within their ranges, in a program of `count` instructions.
 fn has_registers_within(r: Registers, count: usize) -> bool
     ensures { λ a. ⌜ a ≡ every (registersWithin count r) ⌝ }
@@ -55,13 +68,7 @@ fn has_registers_within(r: Registers, count: usize) -> bool
     if r.h < r.used {
         return false;
     }
-    if r.used < r.kept {
-        return false;
-    }
-    if r.kept != 0 {
-        return true;
-    }
-    r.used == 0
+    has_kept_within(r.used, r.kept)
 }
 
 // Whether a cell may stand in a sound state: its tag is at most PA, the last, and a PA is at most the program's length.
