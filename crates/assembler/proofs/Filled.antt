@@ -8,9 +8,10 @@ use lib.ListN.{length, take, set, replicate, replicate-append-replicate}
 use lib.Seq.{length-take-le}
 use Rattle.rules.specs.Sizes.{maxSource, maxProgram}
 use Rattle.rules.specs.Positions.{noPosition}
-use Rattle.rules.specs.Assemble.{Outcome, translated, assembly, noAssembly, assemble}
+use Rattle.rules.specs.Assemble.{Outcome, translated, assembly, assemble}
 use Rattle.rules.specs.declared.TextRefusal.the-variants.{SourceTooLong, WrongLength}
 use Rattle.rules.specs.declared.Assembled.the-variants.{Fault}
+use Rattle.rules.proofs.Outputs.{blanked-right}
 use Rattle.assembler.specs.Held.{OutcomeIs, usedBy, answerOf}
 use Rattle.assembler.specs.declared.held.Translation.{Translation}
 use Rattle.assembler.specs.declared.held.Translation.the-variants.{Done, Refused}
@@ -23,11 +24,11 @@ module _ (src table : List ℕ) where
   unfolding assemble
   answer-31 h = rw (ne-eqb (length table) maxProgram h)
 
-  pub answer-21 : length table ≡ maxProgram → maxSource < length src → assemble src table ≡ noAssembly SourceTooLong noPosition
+  pub answer-21 : length table ≡ maxProgram → maxSource < length src → assemble src table ≡ record { answer = Fault SourceTooLong noPosition; table = replicate maxProgram 0 }
   unfolding assemble
   answer-21 h k = rw (eq-eqb (length table) maxProgram h, lt-leb (length src) maxSource k)
 
-  pub answer-all : length table ≡ maxProgram → length src ≤ maxSource → assemble src table ≡ assembly src (translated src)
+  pub answer-all : length table ≡ maxProgram → length src ≤ maxSource → assemble src table ≡ assembly src table (translated src)
   unfolding assemble
   answer-all h k = rw (eq-eqb (length table) maxProgram h, le-leb (length src) maxSource k)
 
@@ -57,8 +58,9 @@ used-few t x (Done n) h = h .0
 used-few t x (Refused k at) h = omega arith
 
 -- the answer and the table of an outcome
-pub used-all : (src t : List ℕ) (x : Outcome) (a : Translation) → length t ≡ maxProgram → OutcomeIs t x a → (answerOf src a ≡ assembly src x .answer) × (take (usedBy a) t ++ replicate (maxProgram - usedBy a) 0 ≡ assembly src x .table)
-used-all src t x (Done n) l h =
+pub used-all : (src lent t : List ℕ) (x : Outcome) (a : Translation) → length lent ≡ maxProgram → length t ≡ maxProgram → OutcomeIs t x a
+    → (answerOf src a ≡ assembly src lent x .answer) × (take (usedBy a) t ++ replicate (maxProgram - usedBy a) 0 ≡ assembly src lent x .table)
+used-all src lent t x (Done n) k l h =
     let q : length (take n t) ≡ n = length-take-le n t (omega (arith, h .0)) in
     (rw (h .1, q), rw (h .1, q))
-used-all src t x (Refused k at) l h = (rw h, rw h)
+used-all src lent t x (Refused e at) k l h = (rw h, rw (h, blanked-right maxProgram lent k))

@@ -75,15 +75,15 @@ module _ (p : Program) (r : Registers) (m : Memory) where
 
       pub back-undone : (pc sp fbr : ℕ) (bits tags history : List ℕ) → formedCells (r .n) (p .count) 0 lent ≡ true
           → pc ≡ stepPc (topPlace r m) → sp ≡ stepSp (topPlace r m) → fbr ≡ stepFbr (topPlace r m)
-          → bits ≡ restored cellBits lent (m .bits) → tags ≡ restored cellTag lent (m .tags)
+          → bits ≡ restored cellBits lent (m .cells .bits) → tags ≡ restored cellTag lent (m .cells .tags)
           → history ≡ splice (m .history) (r .used - 1 - x) (replicate (x + 1) 0)
           → stepped (Next (registersBack pc sp fbr x r)) bits tags history
           ≡ plainBack p r m
       back-undone pc sp fbr bits tags history k ep es ef eb et eh =
           (λ i.
           stepped (Next (registersBack (ep i) (es i) (ef i) (ex i) r))
-          ((eb ∙ ap (λ (l : List ℕ). restored cellBits l (m .bits)) lent-cells) i)
-          ((et ∙ ap (λ (l : List ℕ). restored cellTag l (m .tags)) lent-cells) i)
+          ((eb ∙ ap (λ (l : List ℕ). restored cellBits l (m .cells .bits)) lent-cells) i)
+          ((et ∙ ap (λ (l : List ℕ). restored cellTag l (m .cells .tags)) lent-cells) i)
           ((eh ∙ ap (λ (n : ℕ). splice (m .history) (r .used - 1 - n) (replicate (n + 1) 0)) ex) i))
           ∙ sym (back-formed true (formed-lent true k))
 

@@ -121,7 +121,7 @@ fn plain_back(
         return Step::Refused(MachineRefusal::Broken);
     }
     restore(bits, tags, &history[from..last]);
-    state::clear(&mut history[from..used]);
+    lent::clear_places(&mut history[from..used]);
     let pc = places::step_pc(top);
     let sp = places::step_sp(top);
     let fbr = places::step_fbr(top);

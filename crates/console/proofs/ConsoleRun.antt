@@ -22,7 +22,7 @@ use Rattle.rules.specs.declared.Step.the-variants.{Next, Refused}
 use Rattle.state.specs.Outcomes.{started}
 use Rattle.rules.proofs.Tests.{by-test}
 use Rattle.rules.proofs.Runs.{run-halted, run-limit, run-next, run-refused, run-long, run-broken, run-enter}
-use Rattle.rules.proofs.Effects.{sound-facts}
+use Rattle.rules.proofs.FairEffects.{sound-facts}
 use Rattle.rules.proofs.Sound.{step-plain, sound-step}
 
 -- ---- a run of a sound state ends in one

@@ -78,4 +78,4 @@ pub report-short : (a : Ran) → a .answer .registers .sp < maxCells → length 
 report-short a h =
     let r = a .answer .registers in
     rw (report-parts a, length-append, length-append)
-    (omega (arith, ending-short (numberOfEnding (a .answer .ending)) (a .answer .steps), registers-short (r .pc) (r .sp) (r .fbr), cells-short (a .memory .bits) (a .memory .tags) (a .memory .history) (r .sp) 0))
+    (omega (arith, ending-short (numberOfEnding (a .answer .ending)) (a .answer .steps), registers-short (r .pc) (r .sp) (r .fbr), cells-short (a .memory .cells .bits) (a .memory .cells .tags) (a .memory .history) (r .sp) 0))

@@ -20,7 +20,7 @@ pub fn pack(table: &[u64], length: usize, image: &mut [u8]) -> Packed
     if image.len() != sizes::IMAGE_SIZE {
         return Packed::Denied(ImageRefusal::OutputLength);
     }
-    writing::clear_bytes(image);
+    lent::clear_bytes(image);
     if !program::table::is_sound(table, length) {
         return Packed::Denied(ImageRefusal::TableBroken);
     }

@@ -15,22 +15,12 @@ use rules::sizes;
 ghost use mathlib.Core.Path.{_≡_};
 ghost use Prim.Native.Nat.{_+_, _*_, _<_, _≤_};
 ghost use lib.Dec.{leb};
-ghost use lib.ListN.{length, drop, replicate};
+ghost use lib.ListN.{length, drop};
 ghost use Rattle.rules.specs.Sizes.{maxProgram};
 ghost use Rattle.rules.specs.Instructions.{codes};
 ghost use Rattle.rules.specs.Fields.{bitsOf};
 ghost use Rattle.rules.specs.Image.{takeOperand, takeOne, bitsTaken, padded, unpacked, filed};
 ghost use Rattle.image.specs.Reach.{operandReach, instructionReach};
-
-fn clear_places(table: &mut [u64])
-    ensures { λ r. ⌜ now (table .exit) ≡ replicate (length (now (table .entry))) 0 ⌝ }
-{
-    let mut i = 0;
-    while i < table.len() {
-        table[i] = 0;
-        i += 1;
-    }
-}
 
 // Whether the image has `width` bits from bit `at`.
 fn has_bits(image: &[u8], at: usize, width: usize) -> bool
@@ -95,10 +85,10 @@ fn is_padded(image: &[u8], at: usize) -> bool
 // Unpacks into a table of 1,024 places.
 pub(crate) fn read_image(image: &[u8], table: &mut [u64]) -> Packed
     requires { ⌜ length (now table) ≡ maxProgram ⌝ }
-    ensures answer { λ r. ⌜ r ≡ filed (unpacked (now (image .entry))) .answer ⌝ }
-    ensures output { λ r. ⌜ now (table .exit) ≡ filed (unpacked (now (image .entry))) .output ⌝ }
+    ensures answer { λ r. ⌜ r ≡ filed (now (table .entry)) (unpacked (now (image .entry))) .answer ⌝ }
+    ensures output { λ r. ⌜ now (table .exit) ≡ filed (now (table .entry)) (unpacked (now (image .entry))) .output ⌝ }
 {
-    clear_places(table);
+    lent::clear_places(table);
     if !has_bits(image, 0, COUNT_WIDTH) {
         return Packed::Denied(ImageRefusal::EndsEarly);
     }
@@ -116,7 +106,7 @@ pub(crate) fn read_image(image: &[u8], table: &mut [u64]) -> Packed
                 i += 1;
             }
             Taken::Unfit(refusal) => {
-                clear_places(table);
+                lent::clear_places(table);
                 return Packed::Denied(refusal);
             }
         }
@@ -124,6 +114,6 @@ pub(crate) fn read_image(image: &[u8], table: &mut [u64]) -> Packed
     if is_padded(image, at) {
         return Packed::Length(count);
     }
-    clear_places(table);
+    lent::clear_places(table);
     Packed::Denied(ImageRefusal::BadPadding)
 }

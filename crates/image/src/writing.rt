@@ -16,16 +16,6 @@ ghost use Rattle.rules.specs.Sizes.{maxProgram, imageSize};
 ghost use Rattle.rules.specs.Image.{instructionBits, imageBits, imageLength, packedTo};
 ghost use Rattle.image.specs.Reach.{operandReach, widest};
 
-pub(crate) fn clear_bytes(image: &mut [u8])
-    ensures { λ r. ⌜ now (image .exit) ≡ replicate (length (now (image .entry))) 0 ⌝ }
-{
-    let mut i = 0;
-    while i < image.len() {
-        image[i] = 0;
-        i += 1;
-    }
-}
-
 // Writes the instruction at bit `at`, and tells the bit after it.
 fn put_instruction(image: &mut [u8], at: usize, place: u64) -> usize
     requires { ⌜ (at ≤ operandReach) × (at + widest ≤ length (now image) * 8) ⌝ }

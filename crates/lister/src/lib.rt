@@ -17,7 +17,7 @@ pub fn list(table: &[u64], length: usize, text: &mut [u8]) -> Listed
     if text.len() != sizes::LISTING_SIZE {
         return Listed::Failed(TextRefusal::WrongLength);
     }
-    lines::clear(text);
+    lent::clear_bytes(text);
     if !program::table::is_sound(table, length) {
         return Listed::Failed(TextRefusal::BrokenTable);
     }

@@ -2,21 +2,10 @@
 use crate::line::put_line;
 ghost use mathlib.Core.Path.{_≡_};
 ghost use mathlib.Core.Bool.{true};
-ghost use lib.ListN.{length, take, replicate};
+ghost use lib.ListN.{take};
 ghost use Rattle.rules.specs.Table.{program, soundTable};
 ghost use Rattle.rules.specs.Listing.{listing};
 ghost use Rattle.digits.specs.Put.{Put};
-
-// Sets every byte to 0.
-pub(crate) fn clear(out: &mut [u8])
-    ensures { λ r. ⌜ now (out .exit) ≡ replicate (length (now (out .entry))) 0 ⌝ }
-{
-    let mut i = 0;
-    while i < out.len() {
-        out[i] = 0;
-        i += 1;
-    }
-}
 
 // Writes the lines of a sound program, and tells the length of them all.
 pub(crate) fn put_lines(table: &[u64], count: usize, out: &mut [u8]) -> usize

@@ -10,7 +10,8 @@ use lib.Seq.{drop-cons}
 use borrow.Author.Tests.{lt-ltb, le-leb, lt-leb}
 use Rattle.rules.specs.Lists.{part, splice}
 use Rattle.rules.specs.Places.{cellPlace, stepPlace}
-use Rattle.rules.specs.State.{Memory, memory, cellAt}
+use Rattle.rules.specs.Cells.{Cells, cells, cellAt}
+use Rattle.rules.specs.State.{Memory, memory}
 use Rattle.rules.specs.Commit.{cellPlaces, recordOf, keeps, historyAfter, roomIn, roomFor, registersWith, registersOf, memoryOf}
 use Rattle.rules.specs.Step.{fitted, carried}
 use Rattle.rules.specs.declared.Cell.{Cell}
@@ -63,14 +64,9 @@ module _ (r : Registers) (e : Effect) (some : r .h ≡ 0 → ⊥) where
 
 -- ---- a plan by its shape
 
-pub planned-as : (r : Registers) (m : Memory) (d : Plan) (s : Shape) → d .shape ≡ s → planned r m d ≡ shaped s r (cellAt m (record { 0 = d .at })) d
+pub planned-as : (r : Registers) (c : Cells) (d : Plan) (s : Shape) → d .shape ≡ s → planned r c d ≡ shaped s r (cellAt c (record { 0 = d .at })) d
 unfolding planned
-planned-as r m d s e = ap (λ (z : Shape). shaped z r (cellAt m (record { 0 = d .at })) d) e
-
--- the history does not matter to what a plan means
-pub planned-history : (r : Registers) (b t h h′ : List ℕ) (d : Plan) → planned r (memory b t h) d ≡ planned r (memory b t h′) d
-unfolding planned
-planned-history r b t h h′ d = refl
+planned-as r c d s e = ap (λ (z : Shape). shaped z r (cellAt c (record { 0 = d .at })) d) e
 
 -- ---- the memory after a jump
 
@@ -97,11 +93,11 @@ module _ (r : Registers) (d : Plan) (bits tags history : List ℕ) (hb : d .at <
   abbrev one : List ℕ
   one = cellPlace (d .at) (getD tags (d .at) 0) (getD bits (d .at) 0) ∷ stepPlace (r .pc) (r .sp) (r .fbr) 1 ∷ []
 
-  one-kept : one ≡ recordOf r (memory bits tags history) (writes r d)
+  one-kept : one ≡ recordOf r (cells bits tags) (writes r d)
   one-kept i = cellPlaces (d .at) (sym (part-one tags (d .at) ht) i) (sym (part-one bits (d .at) hb) i) ++ (stepPlace (r .pc) (r .sp) (r .fbr) 1 ∷ [])
 
   module _ (b t h : List ℕ) (eb : b ≡ set bits (d .at) (d .bits)) (et : t ≡ set tags (d .at) (d .tag)) where
-    cells-put : h ≡ historyAfter (keeps r) history (r .used) (recordOf r (memory bits tags history) (writes r d))
+    cells-put : h ≡ historyAfter (keeps r) history (r .used) (recordOf r (cells bits tags) (writes r d))
         → memory b t h ≡ memoryOf r (memory bits tags history) (writes r d)
     cells-put e =
         let pb : b ≡ splice bits (d .at) (d .bits ∷ []) = eb ∙ put-one bits (d .at) 1 (d .bits) 0 (omega (arith, hb)) refl in

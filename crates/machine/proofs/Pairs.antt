@@ -2,13 +2,13 @@
 -- values each is refused with 3. Assumes nothing.
 use Prim.Native.Nat.{ℕ, zero, suc, _+_, _≤_, _<_, zero-le}
 use mathlib.Core.Path.{_≡_, refl, sym}
-use mathlib.Core.Bool.{Bool, true, false, _||_, false≢true}
+use mathlib.Core.Bool.{Bool, true, _||_}
 use native.Mathlib.Omega.{arith}
 use lib.Arith.{lt-of-le-ne}
 use lib.Dec.{ltb, eqb}
-use borrow.Author.Tests.{lt-leb, le-ltb, ne-eqb}
-use Rattle.rules.specs.Instructions.{Action, stop, pushInt, pushFloat, pushPa, dup, swap, sums, ints, divides, floats, compareFloats, one, toFloat, toInt, equal, isNil, pushSp, popSp, pushFbr, popFbr, link, addSp, pushInd, storeInd, pushOff, storeOff, jump, jumpC, jumpInd, jsr, jsrInd, codes, rows, rowOf, actionOf}
-use Rattle.rules.specs.State.{Memory}
+use borrow.Author.Tests.{lt-leb, le-ltb, ne-eqb, eqb-true}
+use Rattle.rules.specs.Instructions.{codes, rows, rowOf, actionOf}
+use Rattle.rules.specs.Cells.{Cells}
 use Rattle.rules.specs.Decide.{onValues}
 use Rattle.rules.specs.declared.Cell.{Cell}
 use Rattle.rules.specs.declared.Registers.{Registers}
@@ -56,85 +56,18 @@ first-pair x (low, few, not19, not25) r = omega (arith, low, none)
 
 -- ---- with fewer than two values
 
--- an action that computes on two values
-abbrev takesTwo : Action → Bool
-takesTwo (sums f) = true
-takesTwo (ints f) = true
-takesTwo (divides f) = true
-takesTwo (floats f) = true
-takesTwo compareFloats = true
-takesTwo equal = true
-takesTwo stop = false
-takesTwo pushInt = false
-takesTwo pushFloat = false
-takesTwo pushPa = false
-takesTwo dup = false
-takesTwo swap = false
-takesTwo (one f) = false
-takesTwo toFloat = false
-takesTwo toInt = false
-takesTwo isNil = false
-takesTwo pushSp = false
-takesTwo popSp = false
-takesTwo pushFbr = false
-takesTwo popFbr = false
-takesTwo link = false
-takesTwo addSp = false
-takesTwo pushInd = false
-takesTwo storeInd = false
-takesTwo pushOff = false
-takesTwo storeOff = false
-takesTwo jump = false
-takesTwo jumpC = false
-takesTwo jumpInd = false
-takesTwo jsr = false
-takesTwo jsrInd = false
+module _ (r : Registers) (m : Cells) (n : ℕ) (vb vt : Cell) (few : r .sp < 2) where
+  -- the rule over the table, computed once: the instructions between need two values
+  abbrev paired : ℕ → Bool
+  paired c = ltb c 5 || (eqb c 19 || (eqb c 25 || eqb (actionOf c .needs n) 2))
 
--- the rule over the table, computed once
-abbrev paired : ℕ → Bool
-paired c = ltb c 5 || (eqb c 19 || (eqb c 25 || takesTwo (actionOf c)))
+  all-paired : below paired 31 ≡ true
+  unfolding actionOf rowOf rows
+  all-paired = refl
 
-all-paired : below paired 31 ≡ true
-unfolding actionOf rowOf rows
-all-paired = refl
-
-pair-takes : (c : ℕ) → Paired c → takesTwo (actionOf c) ≡ true
-pair-takes c (low, few, not19, not25) = rw (le-ltb c 5 low, ne-eqb c 19 not19, ne-eqb c 25 not25) at (at-below paired 31 all-paired c few)
-
-module _ (r : Registers) (m : Memory) (n : ℕ) (vb vt : Cell) (few : r .sp < 2) where
-  two-few : (a : Action) → takesTwo a ≡ true → onValues r m n vb vt a ≡ Refuses TooFewValues
-  unfolding onValues
-  two-few (sums f) h = rw (lt-leb 2 (r .sp) few) refl
-  two-few (ints f) h = rw (lt-leb 2 (r .sp) few) refl
-  two-few (divides f) h = rw (lt-leb 2 (r .sp) few) refl
-  two-few (floats f) h = rw (lt-leb 2 (r .sp) few) refl
-  two-few compareFloats h = rw (lt-leb 2 (r .sp) few) refl
-  two-few equal h = rw (lt-leb 2 (r .sp) few) refl
-  two-few stop h = absurd (false≢true h)
-  two-few pushInt h = absurd (false≢true h)
-  two-few pushFloat h = absurd (false≢true h)
-  two-few pushPa h = absurd (false≢true h)
-  two-few dup h = absurd (false≢true h)
-  two-few swap h = absurd (false≢true h)
-  two-few (one f) h = absurd (false≢true h)
-  two-few toFloat h = absurd (false≢true h)
-  two-few toInt h = absurd (false≢true h)
-  two-few isNil h = absurd (false≢true h)
-  two-few pushSp h = absurd (false≢true h)
-  two-few popSp h = absurd (false≢true h)
-  two-few pushFbr h = absurd (false≢true h)
-  two-few popFbr h = absurd (false≢true h)
-  two-few link h = absurd (false≢true h)
-  two-few addSp h = absurd (false≢true h)
-  two-few pushInd h = absurd (false≢true h)
-  two-few storeInd h = absurd (false≢true h)
-  two-few pushOff h = absurd (false≢true h)
-  two-few storeOff h = absurd (false≢true h)
-  two-few jump h = absurd (false≢true h)
-  two-few jumpC h = absurd (false≢true h)
-  two-few jumpInd h = absurd (false≢true h)
-  two-few jsr h = absurd (false≢true h)
-  two-few jsrInd h = absurd (false≢true h)
+  pair-needs : (c : ℕ) → Paired c → actionOf c .needs n ≡ 2
+  pair-needs c (low, few, not19, not25) =
+      eqb-true _ _ (rw (le-ltb c 5 low, ne-eqb c 19 not19, ne-eqb c 25 not25) at (at-below paired 31 all-paired c few))
 
   pub pair-few : (c : ℕ) → Paired c → onValues r m n vb vt (actionOf c) ≡ Refuses TooFewValues
-  pair-few c p = two-few (actionOf c) (pair-takes c p)
+  pair-few c p = rw (pair-needs c p, lt-leb 2 (r .sp) few) refl

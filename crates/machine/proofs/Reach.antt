@@ -4,9 +4,15 @@ use mathlib.Core.Path.{_≡_, refl, sym, ap}
 use mathlib.Core.Bool.{true, false}
 use native.Mathlib.Omega.{arith}
 use lib.IntN.{ℤ, pos, negsuc, natAbs, _+ℤ_}
-use borrow.Author.Tests.{lt-ltb, le-ltb}
+use lib.Dec.{ltb}
+use borrow.Author.Tests.{lt-ltb, le-ltb, le-leb, lt-leb, ltb-true, ltb-false}
+use Rattle.rules.proofs.Tests.{by-test}
 use Rattle.rules.specs.Words.{signed}
-use Rattle.rules.specs.Decide.{moved, frame, inside, memoryAddress, addSpTo, onAddSp}
+use Rattle.rules.specs.Tags.{int}
+use Rattle.rules.specs.Effects.{memoryAddress, moved}
+use Rattle.rules.specs.Decide.{enough}
+use Rattle.rules.specs.Actions.{frame, inside, taken, addSp}
+use Rattle.machine.specs.Families.{onOperand}
 use Rattle.rules.specs.declared.MemoryAddress.{MemoryAddress}
 use Rattle.rules.specs.declared.Registers.{Registers}
 use Rattle.rules.specs.declared.Decision.the-variants.{Does, Refuses}
@@ -39,13 +45,29 @@ beneath : (z : ℤ) → Below ≡ reachOf z → z ≡ negsuc (natAbs z - 1)
 beneath (pos n) e = cc
 beneath (negsuc n) e = ap negsuc (omega arith)
 
+-- ---- as many values as are taken away
+
+enough-taken : (s : ℕ) (z : ℤ) (a : MemoryAddress) → To a ≡ reachOf (pos s +ℤ z) → enough (taken z) s ≡ true
+enough-taken s (pos k) a e = refl
+enough-taken s (negsuc k) a e =
+    by-test (ltb s (suc k))
+    (λ h. absurd (let z : To a ≡ Below = rw h at e in let y : _≡_ {A = ℕ} 0 1 = cc in let x : ⊥ = omega arith in x))
+    (λ h. le-leb (suc k) s (ltb-false s (suc k) h))
+
+few-taken : (s : ℕ) (z : ℤ) → Below ≡ reachOf (pos s +ℤ z) → enough (taken z) s ≡ false
+few-taken s (pos k) e = absurd (let y : _≡_ {A = ℕ} 0 1 = cc in let x : ⊥ = omega arith in x)
+few-taken s (negsuc k) e =
+    by-test (ltb s (suc k))
+    (λ h. lt-leb (suc k) s (ltb-true s (suc k) h))
+    (λ h. absurd (let z : Below ≡ To (record { 0 = s - suc k }) = rw h at e in let y : _≡_ {A = ℕ} 0 1 = cc in let x : ⊥ = omega arith in x))
+
 module _ (r : Registers) (n : ℕ) where
   -- ---- ADDSP
-  pub add-to : (a : MemoryAddress) → To a ≡ reachOf (pos (r .sp) +ℤ signed n) → Does (moved r (r .sp) a) ≡ onAddSp r n
-  add-to a e = rw (reached (pos (r .sp) +ℤ signed n) a e) refl
+  pub add-to : (a : MemoryAddress) → To a ≡ reachOf (pos (r .sp) +ℤ signed n) → Does (moved r (r .sp) a) ≡ onOperand addSp r n (int 0)
+  add-to a e = rw (enough-taken (r .sp) (signed n) a e, reached (pos (r .sp) +ℤ signed n) a e) refl
 
-  pub add-below : Below ≡ reachOf (pos (r .sp) +ℤ signed n) → Refuses TooFewValues ≡ onAddSp r n
-  add-below e = sym (ap (addSpTo r) (beneath (pos (r .sp) +ℤ signed n) e))
+  pub add-below : Below ≡ reachOf (pos (r .sp) +ℤ signed n) → Refuses TooFewValues ≡ onOperand addSp r n (int 0)
+  add-below e = rw (few-taken (r .sp) (signed n) e) refl
 
   -- ---- an address from FBR
   module _ (limit : ℕ) where

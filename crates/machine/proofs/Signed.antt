@@ -7,7 +7,8 @@ use borrow.Author.Tests.{le-ltb, ltb-true}
 use mir.Syntax.{w32}
 use mir.Facts.{toZ-pos}
 use Rattle.rules.specs.Words.{signed}
-use Rattle.rules.specs.Decide.{inside, memoryAddress}
+use Rattle.rules.specs.Effects.{memoryAddress}
+use Rattle.rules.specs.Actions.{inside}
 
 pub signed-low : (b : ℕ) → b < 2147483648 → signed b ≡ pos b
 signed-low b h = toZ-pos w32 {n = b} h

@@ -24,7 +24,7 @@ use Rattle.rules.specs.declared.MachineRefusal.the-variants.{AlreadyHalted, AtE
 use Rattle.rules.specs.declared.Step.{Step}
 use Rattle.rules.specs.declared.Step.the-variants.{Next, Refused}
 use Rattle.rules.proofs.Fair.{Sound}
-use Rattle.rules.proofs.Effects.{sound-facts, fair-place}
+use Rattle.rules.proofs.FairEffects.{sound-facts, fair-place}
 use Rattle.rules.proofs.Table.{table-short, table-long, place-sound}
 use Rattle.rules.proofs.Tests.{and-left}
 use Rattle.rules.proofs.Sound.{step-plain, sound-step}
@@ -60,16 +60,16 @@ module _ (r : Registers) (e : Effect) where
 module _ (p : Program) (r : Registers) (m : Memory) where
   -- ---- "1 to 8 in order"
 
-  pub judged-halted : (r .halt ≡ 0 → ⊥) → judged p r m ≡ Refuses AlreadyHalted
+  pub judged-halted : (r .halt ≡ 0 → ⊥) → judged p r (m .cells) ≡ Refuses AlreadyHalted
   unfolding judged
   judged-halted h = rw (ne-eqb (r .halt) 0 h) refl
 
   module _ (running : r .halt ≡ 0) where
-    pub judged-end : r .pc ≡ p .count → judged p r m ≡ Refuses AtEnd
+    pub judged-end : r .pc ≡ p .count → judged p r (m .cells) ≡ Refuses AtEnd
     unfolding judged
     judged-end h = rw (eq-eqb (r .halt) 0 running, eq-eqb (r .pc) (p .count) h) refl
 
-    pub judged-fitted : (r .pc ≡ p .count → ⊥) → judged p r m ≡ fitted r (decideAt r m (getD (p .places) (r .pc) 0))
+    pub judged-fitted : (r .pc ≡ p .count → ⊥) → judged p r (m .cells) ≡ fitted r (decideAt r (m .cells) (getD (p .places) (r .pc) 0))
     unfolding judged
     judged-fitted h = rw (eq-eqb (r .halt) 0 running, ne-eqb (r .pc) (p .count) h) refl
 
@@ -86,16 +86,16 @@ module _ (p : Program) (r : Registers) (m : Memory) where
         let short = table-short p (f .table) in
         (omega (arith, f .pc, short), omega (arith, f .sp, f .few), omega (arith, f .fbr, f .few))
 
-    pub live : Live r (m .bits) (m .tags)
+    pub live : Live r (m .cells .bits) (m .cells .tags)
     live =
         let f : Sound p r m = sound-facts p r m s in
         (omega (arith, f .bits, f .sp), f .tags ∙ sym (f .bits))
 
-    carries : step p r m ≡ carried r m (judged p r m)
+    carries : step p r m ≡ carried r m (judged p r (m .cells))
     unfolding plainStep
     carries = step-plain p r m s
 
-    pub step-refuses : (a : Step) (x : MachineRefusal) → a ≡ Refused x → judged p r m ≡ Refuses x → record { answer = a; memory = m } ≡ step p r m
+    pub step-refuses : (a : Step) (x : MachineRefusal) → a ≡ Refused x → judged p r (m .cells) ≡ Refuses x → record { answer = a; memory = m } ≡ step p r m
     step-refuses a x h q = ap (λ (z : Step). record { answer = z; memory = m }) h ∙ sym (carries ∙ ap (carried r m) q)
 
     -- at an instruction
@@ -118,7 +118,7 @@ module _ (p : Program) (r : Registers) (m : Memory) where
       unfolding soundPlace
       coded = ltb-true (codeOf place) codes (and-left (ltb (codeOf place) codes) (within (kindOf (codeOf place)) (p .count) (operandOf place)) place-fits)
 
-      pub opens : (e : Effect) → decideAt r m (getD (p .places) (r .pc) 0) ≡ Does e → Open r e m
+      pub opens : (e : Effect) → decideAt r (m .cells) (getD (p .places) (r .pc) 0) ≡ Does e → Open r e m
       opens e q =
           let f : Sound p r m = sound-facts p r m s in
           record {
@@ -130,7 +130,7 @@ module _ (p : Program) (r : Registers) (m : Memory) where
             block = λ h. fair-place p r m f below place e place-fits q h .fits;
           }
 
-      pub step-carries : step p r m ≡ carried r m (fitted r (decideAt r m (getD (p .places) (r .pc) 0)))
+      pub step-carries : step p r m ≡ carried r m (fitted r (decideAt r (m .cells) (getD (p .places) (r .pc) 0)))
       step-carries = carries ∙ ap (carried r m) (judged-fitted running inside)
 
     -- what an accepted step leaves is sound, and a refused step leaves what was
@@ -149,4 +149,4 @@ module _ (p : Program) (r : Registers) (m : Memory) where
       refused-same (Refuses y) x h = ap (λ k. k .memory) h
 
       pub refused-keeps : (a : Step) (x : MachineRefusal) → a ≡ Refused x → stepped a bits tags history ≡ step p r m → memory bits tags history ≡ m
-      refused-keeps a x k e = refused-same (judged p r m) x (ap (λ (z : Step). stepped z bits tags history) (sym k) ∙ e ∙ carries)
+      refused-keeps a x k e = refused-same (judged p r (m .cells)) x (ap (λ (z : Step). stepped z bits tags history) (sym k) ∙ e ∙ carries)

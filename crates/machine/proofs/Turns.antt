@@ -88,7 +88,7 @@ module _ (p : Program) (r : Registers) (m : Memory) (s : sound p r m ≡ true) (
       ap onceBy (run-next p 0 r m 0 not-halted q h) ∙ one-left q (step p r m .memory)
       ∙ ap (λ (z : Step). record { answer = z; memory = step p r m .memory }) (sym h)
   once-by (Refused x) h =
-      let same = refused-keeps p r m s (step p r m .memory .bits) (step p r m .memory .tags) (step p r m .memory .history) (step p r m .answer) x h refl in
+      let same = refused-keeps p r m s (step p r m .memory .cells .bits) (step p r m .memory .cells .tags) (step p r m .memory .history) (step p r m .answer) x h refl in
       ap onceBy (run-refused p 0 r m 0 not-halted x h) ∙ λ i. record { answer = sym h i; memory = sym same i }
 
   once : onceBy (runFrom p 1 0 r m) ≡ step p r m

@@ -11,8 +11,8 @@ use Rattle.rules.specs.declared.Registers.{Registers}
 use Rattle.rules.specs.declared.Effect.{Effect}
 
 pub record Fits (r : Registers) (e : Effect) (m : Memory) : Type 0 where
-  pub cells : length (m .bits) ≡ r .n
-  pub tagged : length (m .tags) ≡ r .n
+  pub cells : length (m .cells .bits) ≡ r .n
+  pub tagged : length (m .cells .tags) ≡ r .n
   pub places : length (m .history) ≡ r .h
   pub used : r .used ≤ r .h
   pub kept : r .kept ≤ r .used
@@ -20,8 +20,8 @@ pub record Fits (r : Registers) (e : Effect) (m : Memory) : Type 0 where
   pub room : roomFor r e ≡ true
 
 pub record Open (r : Registers) (e : Effect) (m : Memory) : Type 0 where
-  pub cells : length (m .bits) ≡ r .n
-  pub tagged : length (m .tags) ≡ r .n
+  pub cells : length (m .cells .bits) ≡ r .n
+  pub tagged : length (m .cells .tags) ≡ r .n
   pub places : length (m .history) ≡ r .h
   pub used : r .used ≤ r .h
   pub kept : r .kept ≤ r .used

@@ -4,6 +4,7 @@ pub mod Live
 pub mod Paired
 pub mod Reach
 pub mod Plan
+pub mod Families
 pub mod Turn
 pub mod Fits
 pub mod Outcomes

@@ -1,8 +1,8 @@
 -- What a plan means: the rules' decision, given the cells as they stand. Assumes nothing.
-use Prim.Native.Nat.{ℕ, _-_}
+use Prim.Native.Nat.{ℕ}
 use mathlib.Core.Path.{_≡_}
-use Rattle.rules.specs.Tags.{INT, int}
-use Rattle.rules.specs.State.{Memory, cellAt}
+use Rattle.rules.specs.Cells.{Cells, cellAt}
+use Rattle.rules.specs.Effects.{nothing, cell, pair, zeros, effect}
 use Rattle.rules.specs.declared.Cell.{Cell}
 use Rattle.rules.specs.declared.Registers.{Registers}
 use Rattle.rules.specs.declared.Effect.{Effect}
@@ -21,33 +21,26 @@ cellOf d = record { bits = d .bits; tag = d .tag }
 
 -- PC and SP alone, and one cell
 abbrev pub jumps : Registers → ℕ → ℕ → Effect
-jumps r pc sp =
-    record { pc = pc; sp = sp; fbr = r .fbr; halt = 0; at = 0; count = 0; first = int 0; second = int 0 }
+jumps r pc sp = effect pc sp (r .fbr) 0 nothing
 
 abbrev pub writes : Registers → Plan → Effect
-writes r d =
-    record { pc = d .pc; sp = d .sp; fbr = r .fbr; halt = 0; at = d .at; count = 1; first = cellOf d; second = int 0 }
+writes r d = effect (d .pc) (d .sp) (r .fbr) 0 (cell (d .at) (cellOf d))
 
 -- the rarer effects: two cells, of which the second is the one that stood at the address; INT 0 up to SP; FBR; FBR and a cell; HALT
 abbrev pub swaps : Registers → Cell → Plan → Effect
-swaps r there d =
-    record { pc = d .pc; sp = d .sp; fbr = r .fbr; halt = 0; at = d .at; count = 2; first = cellOf d; second = there }
+swaps r there d = effect (d .pc) (d .sp) (r .fbr) 0 (pair (d .at) (cellOf d) there)
 
 abbrev pub fills : Registers → Plan → Effect
-fills r d =
-    record { pc = d .pc; sp = d .sp; fbr = r .fbr; halt = 0; at = d .at; count = d .sp - d .at; first = int 0; second = int 0 }
+fills r d = effect (d .pc) (d .sp) (r .fbr) 0 (zeros (d .at) (d .sp))
 
 abbrev pub frames : Plan → Effect
-frames d =
-    record { pc = d .pc; sp = d .sp; fbr = d .at; halt = 0; at = 0; count = 0; first = int 0; second = int 0 }
+frames d = effect (d .pc) (d .sp) (d .at) 0 nothing
 
 abbrev pub links : Registers → Plan → Effect
-links r d =
-    record { pc = d .pc; sp = d .sp; fbr = r .sp; halt = 0; at = d .at; count = 1; first = cellOf d; second = int 0 }
+links r d = effect (d .pc) (d .sp) (r .sp) 0 (cell (d .at) (cellOf d))
 
 abbrev pub halts : Registers → Plan → Effect
-halts r d =
-    record { pc = d .pc; sp = d .sp; fbr = r .fbr; halt = 1; at = 0; count = 0; first = int 0; second = int 0 }
+halts r d = effect (d .pc) (d .sp) (r .fbr) 1 nothing
 
 -- each of them, where `there` is the cell at the plan's address
 abbrev pub rarely : rares.Rare → Registers → Cell → Plan → Effect
@@ -67,9 +60,9 @@ shaped WrongTag r there d = Refuses refusal.WrongTag
 shaped NoResult r there d = Refuses refusal.NoResult
 shaped BadAddress r there d = Refuses refusal.BadAddress
 
-unfoldable pub planned : Registers → Memory → Plan → Decision
-planned r m d = shaped (d .shape) r (cellAt m (record { 0 = d .at })) d
+unfoldable pub planned : Registers → Cells → Plan → Decision
+planned r c d = shaped (d .shape) r (cellAt c (record { 0 = d .at })) d
 
 -- a plan that means the decision whatever stands in the cells
 abbrev pub Means : Registers → Plan → Decision → Type 0
-Means r d x = (m : Memory) → planned r m d ≡ x
+Means r d x = (c : Cells) → planned r c d ≡ x

@@ -1,11 +1,14 @@
 // Addresses of cells: "MA bits are read as two's complement", and the offsets from FBR; and the instructions that read or store by them.
 ghost use mathlib.Core.Path.{_≡_};
-ghost use mathlib.Core.List.{[]};
 ghost use Prim.Native.Nat.{_-_, _<_};
 ghost use lib.IntN.{pos, _+ℤ_};
 ghost use Rattle.rules.specs.Words.{signed};
-ghost use Rattle.rules.specs.State.{memory};
-ghost use Rattle.rules.specs.Decide.{inside, memoryAddress, onAddSp, onPushInd, onStoreInd, onPushOff, onStoreOff};
+ghost use Rattle.rules.specs.Cells.{cells};
+ghost use Rattle.rules.specs.Tags.{int};
+ghost use Rattle.rules.specs.Effects.{memoryAddress};
+ghost use Rattle.rules.specs.Decide.{onValues};
+ghost use Rattle.rules.specs.Actions.{inside, addSp, pushInd, storeInd, pushOff, storeOff};
+ghost use Rattle.machine.specs.Families.{onPair, onOperand};
 ghost use Rattle.machine.specs.Small.{Small};
 ghost use Rattle.machine.specs.Live.{Live};
 ghost use Rattle.machine.specs.Plan.{Means};
@@ -66,7 +69,7 @@ pub(crate) fn moved_by(base: usize, offset: u32) -> Reach
 // SP moves by a number; below 0 there are too few values.
 pub(crate) fn on_add_sp(r: Registers, offset: u32) -> Plan
     requires { ⌜ Small r ⌝ }
-    ensures { λ d. ⌜ Means r d (onAddSp r offset) ⌝ }
+    ensures { λ d. ⌜ Means r d (onOperand addSp r offset (int 0)) ⌝ }
 {
     let to = moved_by(r.sp, offset);
     match to {
@@ -78,7 +81,7 @@ pub(crate) fn on_add_sp(r: Registers, offset: u32) -> Plan
 // The cell at an MA below SP-1 takes the MA's place.
 pub(crate) fn on_push_ind(r: Registers, bits: &[u32], tags: &[u8], top: Cell) -> Plan
     requires { ⌜ Small r × Live r (now bits) (now tags) ⌝ }
-    ensures { λ d. ⌜ Means r d (onPushInd r (memory (now (bits .entry)) (now (tags .entry)) []) top) ⌝ }
+    ensures { λ d. ⌜ Means r d (onValues r (cells (now (bits .entry)) (now (tags .entry))) 0 (int 0) top pushInd) ⌝ }
 {
     if r.sp < 1 {
         return TOO_FEW_VALUES;
@@ -96,7 +99,7 @@ pub(crate) fn on_push_ind(r: Registers, bits: &[u32], tags: &[u8], top: Cell) ->
 // The top is stored at the MA below it.
 pub(crate) fn on_store_ind(r: Registers, below: Cell, top: Cell) -> Plan
     requires { ⌜ Small r ⌝ }
-    ensures { λ d. ⌜ Means r d (onStoreInd r below top) ⌝ }
+    ensures { λ d. ⌜ Means r d (onPair storeInd r below top) ⌝ }
 {
     if r.sp < 2 {
         return TOO_FEW_VALUES;
@@ -113,7 +116,7 @@ pub(crate) fn on_store_ind(r: Registers, below: Cell, top: Cell) -> Plan
 // The cell at FBR and an offset is pushed.
 pub(crate) fn on_push_off(r: Registers, bits: &[u32], tags: &[u8], offset: u32) -> Plan
     requires { ⌜ Small r × Live r (now bits) (now tags) ⌝ }
-    ensures { λ d. ⌜ Means r d (onPushOff r (memory (now (bits .entry)) (now (tags .entry)) []) offset) ⌝ }
+    ensures { λ d. ⌜ Means r d (onValues r (cells (now (bits .entry)) (now (tags .entry))) offset (int 0) (int 0) pushOff) ⌝ }
 {
     let to = moved_by(r.fbr, offset);
     match to {
@@ -130,7 +133,7 @@ pub(crate) fn on_push_off(r: Registers, bits: &[u32], tags: &[u8], offset: u32) 
 // The top is stored at FBR and an offset.
 pub(crate) fn on_store_off(r: Registers, offset: u32, top: Cell) -> Plan
     requires { ⌜ Small r ⌝ }
-    ensures { λ d. ⌜ Means r d (onStoreOff r offset top) ⌝ }
+    ensures { λ d. ⌜ Means r d (onOperand storeOff r offset top) ⌝ }
 {
     if r.sp < 1 {
         return TOO_FEW_VALUES;

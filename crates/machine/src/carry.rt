@@ -7,7 +7,8 @@ ghost use lib.Dec.{leb};
 ghost use lib.ListN.{length, getD, set};
 ghost use Rattle.rules.specs.Lists.{splice};
 ghost use Rattle.rules.specs.Places.{cellPlace, stepPlace};
-ghost use Rattle.rules.specs.State.{memory, cellAt};
+ghost use Rattle.rules.specs.Cells.{cells, cellAt};
+ghost use Rattle.rules.specs.State.{memory};
 ghost use Rattle.rules.specs.Commit.{registersWith, roomFor};
 ghost use Rattle.rules.specs.Step.{fitted, carried};
 ghost use Rattle.rules.specs.declared.Step.the-variants.{Next};
@@ -131,8 +132,8 @@ fn has_room(r: Registers, e: Effect) -> bool
 
 // One of the rarer effects, where it fits.
 fn carry_rare(r: Registers, d: Plan, bits: &mut [u32], tags: &mut [u8], history: &mut [u64]) -> Turn
-    requires { ⌜ Open r (rarely (d .rare) r (cellAt (memory (now bits) (now tags) (now history)) (record { 0 = d .at })) d) (memory (now bits) (now tags) (now history)) ⌝ }
-    ensures { λ a. ⌜ stepped (answerOf a) (now (bits .exit)) (now (tags .exit)) (now (history .exit)) ≡ carried r (memory (now (bits .entry)) (now (tags .entry)) (now (history .entry))) (fitted r (Does (rarely (d .rare) r (cellAt (memory (now (bits .entry)) (now (tags .entry)) (now (history .entry))) (record { 0 = d .at })) d))) ⌝ }
+    requires { ⌜ Open r (rarely (d .rare) r (cellAt (cells (now bits) (now tags)) (record { 0 = d .at })) d) (memory (now bits) (now tags) (now history)) ⌝ }
+    ensures { λ a. ⌜ stepped (answerOf a) (now (bits .exit)) (now (tags .exit)) (now (history .exit)) ≡ carried r (memory (now (bits .entry)) (now (tags .entry)) (now (history .entry))) (fitted r (Does (rarely (d .rare) r (cellAt (cells (now (bits .entry)) (now (tags .entry))) (record { 0 = d .at })) d))) ⌝ }
 {
     if is_high(r, d.sp) {
         return turn::refused(MachineRefusal::StackFull, r);
@@ -153,8 +154,8 @@ pub(crate) fn carry(
     tags: &mut [u8],
     history: &mut [u64],
 ) -> Turn
-    requires { ⌜ ((e : Effect) → planned r (memory (now bits) (now tags) (now history)) d ≡ Does e → Open r e (memory (now bits) (now tags) (now history))) ⌝ }
-    ensures { λ a. ⌜ stepped (answerOf a) (now (bits .exit)) (now (tags .exit)) (now (history .exit)) ≡ carried r (memory (now (bits .entry)) (now (tags .entry)) (now (history .entry))) (fitted r (planned r (memory (now (bits .entry)) (now (tags .entry)) (now (history .entry))) d)) ⌝ }
+    requires { ⌜ ((e : Effect) → planned r (cells (now bits) (now tags)) d ≡ Does e → Open r e (memory (now bits) (now tags) (now history))) ⌝ }
+    ensures { λ a. ⌜ stepped (answerOf a) (now (bits .exit)) (now (tags .exit)) (now (history .exit)) ≡ carried r (memory (now (bits .entry)) (now (tags .entry)) (now (history .entry))) (fitted r (planned r (cells (now (bits .entry)) (now (tags .entry))) d)) ⌝ }
 {
     let shape = d.shape;
     match shape {

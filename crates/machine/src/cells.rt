@@ -1,10 +1,9 @@
 // Cells: one of each tag, and those that stand at an address or on top of the stack.
 ghost use mathlib.Core.Path.{_≡_};
-ghost use mathlib.Core.List.{[]};
 ghost use Prim.Native.Nat.{_-_, _<_};
 ghost use lib.ListN.{length};
 ghost use Rattle.rules.specs.Tags.{int, float, ma, pa};
-ghost use Rattle.rules.specs.State.{memory, cellAt};
+ghost use Rattle.rules.specs.Cells.{cells, cellAt};
 ghost use Rattle.machine.specs.Live.{Live};
 use rules::Cell;
 use rules::MemoryAddress;
@@ -56,7 +55,7 @@ pub(crate) fn program_cell(bits: u32) -> Cell
 // The cell at an address.
 pub(crate) fn cell_at(bits: &[u32], tags: &[u8], a: MemoryAddress) -> Cell
     requires { ⌜ (a .0 < length (now bits)) × (length (now tags) ≡ length (now bits)) ⌝ }
-    ensures { λ c. ⌜ c ≡ cellAt (memory (now (bits .entry)) (now (tags .entry)) []) a ⌝ }
+    ensures { λ c. ⌜ c ≡ cellAt (cells (now (bits .entry)) (now (tags .entry))) a ⌝ }
 {
     let at = a.0;
     Cell {
@@ -78,7 +77,7 @@ fn below_top(r: Registers, popped: usize) -> MemoryAddress
 // The top value; where there is none, the cell at 0.
 pub(crate) fn top(r: Registers, bits: &[u32], tags: &[u8]) -> Cell
     requires { ⌜ Live r (now bits) (now tags) ⌝ }
-    ensures { λ c. ⌜ c ≡ cellAt (memory (now (bits .entry)) (now (tags .entry)) []) (record { 0 = r .sp - 1 }) ⌝ }
+    ensures { λ c. ⌜ c ≡ cellAt (cells (now (bits .entry)) (now (tags .entry))) (record { 0 = r .sp - 1 }) ⌝ }
 {
     cell_at(bits, tags, below_top(r, 1))
 }
@@ -86,7 +85,7 @@ pub(crate) fn top(r: Registers, bits: &[u32], tags: &[u8]) -> Cell
 // The value below the top; where there is none, the cell at 0.
 pub(crate) fn second(r: Registers, bits: &[u32], tags: &[u8]) -> Cell
     requires { ⌜ Live r (now bits) (now tags) ⌝ }
-    ensures { λ c. ⌜ c ≡ cellAt (memory (now (bits .entry)) (now (tags .entry)) []) (record { 0 = r .sp - 2 }) ⌝ }
+    ensures { λ c. ⌜ c ≡ cellAt (cells (now (bits .entry)) (now (tags .entry))) (record { 0 = r .sp - 2 }) ⌝ }
 {
     cell_at(bits, tags, below_top(r, 2))
 }

@@ -6,6 +6,7 @@ ghost use mathlib.Core.Path.{_≡_};
 ghost use Prim.Native.Nat.{_+_, _≤_};
 ghost use lib.ListN.{length, replicate};
 ghost use Rattle.rules.specs.Lists.{splice};
+ghost use Rattle.rules.specs.Cells.{cells};
 ghost use Rattle.rules.specs.State.{memory};
 ghost use Rattle.rules.specs.Commit.{block, recordOf, keeps, historyAfter, registersWith, registersOf, memoryOf};
 ghost use Rattle.machine.specs.Fits.{Fits};
@@ -50,7 +51,7 @@ fn put(e: Effect, bits: &mut [u32], tags: &mut [u8])
 // Adds the step's record: the cell places of the cells that the effect overwrites, by rising address, then the step place.
 fn add_record(e: Effect, r: Registers, bits: &[u32], tags: &[u8], history: &mut [u64])
     requires { ⌜ (length (now tags) ≡ length (now bits)) × ((e .at + e .count ≤ length (now bits)) × (r .used + (e .count + 1) ≤ length (now history))) ⌝ }
-    ensures { λ _. ⌜ now (history .exit) ≡ splice (now (history .entry)) (r .used) (recordOf r (memory (now (bits .entry)) (now (tags .entry)) (now (history .entry))) e) ⌝ }
+    ensures { λ _. ⌜ now (history .exit) ≡ splice (now (history .entry)) (r .used) (recordOf r (cells (now (bits .entry)) (now (tags .entry))) e) ⌝ }
 {
     let at = e.at;
     let count = e.count;
@@ -86,7 +87,7 @@ fn registers_with(r: Registers, e: Effect, used: usize, kept: usize) -> Register
 fn keep(e: Effect, r: Registers, bits: &[u32], tags: &[u8], history: &mut [u64]) -> Registers
     requires { ⌜ Fits r e (memory (now bits) (now tags) (now history)) ⌝ }
     ensures { λ a. ⌜ a ≡ registersOf r e ⌝ }
-    ensures { λ _. ⌜ now (history .exit) ≡ historyAfter (keeps r) (now (history .entry)) (r .used) (recordOf r (memory (now (bits .entry)) (now (tags .entry)) (now (history .entry))) e) ⌝ }
+    ensures { λ _. ⌜ now (history .exit) ≡ historyAfter (keeps r) (now (history .entry)) (r .used) (recordOf r (cells (now (bits .entry)) (now (tags .entry))) e) ⌝ }
 {
     let used = r.used;
     if r.h == 0 {

@@ -1,8 +1,7 @@
 // What the instruction at a table's place decides: the one dispatch over the codes, each to its family. Cells are read where they are used.
 ghost use mathlib.Core.Path.{_≡_};
-ghost use mathlib.Core.List.{[]};
 ghost use Prim.Native.Nat.{ℕ, _≤_, _<_};
-ghost use Rattle.rules.specs.State.{Memory, memory};
+ghost use Rattle.rules.specs.Cells.{Cells, cells};
 ghost use Rattle.rules.specs.Instructions.{codes, actionOf};
 ghost use Rattle.rules.specs.Table.{codeOf};
 ghost use Rattle.rules.specs.Decide.{onValues, decide};
@@ -24,7 +23,7 @@ use rules::codes;
 // An instruction that computes on the two top values. No other code comes here.
 fn on_pair(code: usize, r: Registers, vb: Cell, vt: Cell) -> Plan
     requires { ⌜ Small r × (2 ≤ r .sp) × Paired code ⌝ }
-    ensures { λ d. ⌜ ((m : Memory) (n : ℕ) → planned r m d ≡ onValues r m n vb vt (actionOf code)) ⌝ }
+    ensures { λ d. ⌜ ((c : Cells) (n : ℕ) → planned r c d ≡ onValues r c n vb vt (actionOf code)) ⌝ }
 {
     let b = vb.bits;
     let t = vt.bits;
@@ -72,7 +71,7 @@ fn on_pair(code: usize, r: Registers, vb: Cell, vt: Cell) -> Plan
 // The same on the cells, where there are two values.
 fn on_two(code: usize, r: Registers, bits: &[u32], tags: &[u8]) -> Plan
     requires { ⌜ Small r × Live r (now bits) (now tags) × Paired code ⌝ }
-    ensures { λ d. ⌜ ((n : ℕ) → planned r (memory (now (bits .entry)) (now (tags .entry)) []) d ≡ decide r (memory (now (bits .entry)) (now (tags .entry)) []) n (actionOf code)) ⌝ }
+    ensures { λ d. ⌜ ((n : ℕ) → planned r (cells (now (bits .entry)) (now (tags .entry))) d ≡ decide r (cells (now (bits .entry)) (now (tags .entry))) n (actionOf code)) ⌝ }
 {
     if r.sp < 2 {
         return TOO_FEW_VALUES;
@@ -88,7 +87,7 @@ fn on_two(code: usize, r: Registers, bits: &[u32], tags: &[u8]) -> Plan
 // A code with its operand. One that computes on the two top values is left to `on_two`.
 fn by_code(code: usize, n: u32, r: Registers, bits: &[u32], tags: &[u8]) -> Plan
     requires { ⌜ Small r × Live r (now bits) (now tags) × (code < codes) ⌝ }
-    ensures { λ d. ⌜ planned r (memory (now (bits .entry)) (now (tags .entry)) []) d ≡ decide r (memory (now (bits .entry)) (now (tags .entry)) []) n (actionOf code) ⌝ }
+    ensures { λ d. ⌜ planned r (cells (now (bits .entry)) (now (tags .entry))) d ≡ decide r (cells (now (bits .entry)) (now (tags .entry))) n (actionOf code) ⌝ }
 {
     match code {
         codes::STOP => plans::halted(r),
@@ -130,7 +129,7 @@ fn by_code(code: usize, n: u32, r: Registers, bits: &[u32], tags: &[u8]) -> Plan
 // The instruction at a table's place.
 pub(crate) fn decide_at(place: u64, r: Registers, bits: &[u32], tags: &[u8]) -> Plan
     requires { ⌜ Small r × Live r (now bits) (now tags) × (codeOf place < codes) ⌝ }
-    ensures { λ d. ⌜ planned r (memory (now (bits .entry)) (now (tags .entry)) []) d ≡ decideAt r (memory (now (bits .entry)) (now (tags .entry)) []) place ⌝ }
+    ensures { λ d. ⌜ planned r (cells (now (bits .entry)) (now (tags .entry))) d ≡ decideAt r (cells (now (bits .entry)) (now (tags .entry))) place ⌝ }
 {
     let code = program::table::code_of(place);
     let n = program::table::operand_of(place);

@@ -1,9 +1,8 @@
 // The rarer effects of a plan, each as specs/Plan.antt has it. Nothing is written here.
 ghost use mathlib.Core.Path.{_≡_};
-ghost use mathlib.Core.List.{[]};
 ghost use Prim.Native.Nat.{_-_, _<_};
 ghost use lib.ListN.{length};
-ghost use Rattle.rules.specs.State.{memory, cellAt};
+ghost use Rattle.rules.specs.Cells.{cells, cellAt};
 ghost use Rattle.machine.specs.declared.plans.Rare.the-variants.{Swap};
 ghost use Rattle.machine.specs.Plan.{swaps, fills, frames, links, halts, rarely};
 use crate::cells::INT_ZERO;
@@ -18,7 +17,7 @@ use rules::Registers;
 // The planned cell, and above it the one that stands at the address.
 fn swaps(r: Registers, d: Plan, bits: &[u32], tags: &[u8]) -> Effect
     requires { ⌜ (d .at < length (now bits)) × (length (now tags) ≡ length (now bits)) ⌝ }
-    ensures { λ e. ⌜ e ≡ swaps r (cellAt (memory (now (bits .entry)) (now (tags .entry)) []) (record { 0 = d .at })) d ⌝ }
+    ensures { λ e. ⌜ e ≡ swaps r (cellAt (cells (now (bits .entry)) (now (tags .entry))) (record { 0 = d .at })) d ⌝ }
 {
     let there = cell_at(bits, tags, MemoryAddress(d.at));
     Effect {
@@ -114,7 +113,7 @@ fn halts(r: Registers, d: Plan) -> Effect
 // The effect of a rarer plan.
 pub(crate) fn rare_effect(r: Registers, d: Plan, bits: &[u32], tags: &[u8]) -> Effect
     requires { ⌜ (d .rare ≡ Swap → d .at < length (now bits)) × (length (now tags) ≡ length (now bits)) ⌝ }
-    ensures { λ e. ⌜ e ≡ rarely (d .rare) r (cellAt (memory (now (bits .entry)) (now (tags .entry)) []) (record { 0 = d .at })) d ⌝ }
+    ensures { λ e. ⌜ e ≡ rarely (d .rare) r (cellAt (cells (now (bits .entry)) (now (tags .entry))) (record { 0 = d .at })) d ⌝ }
 {
     let rare = d.rare;
     match rare {

@@ -6,8 +6,10 @@ ghost use Rattle.rules.specs.declared.Decision.the-variants.{Does};
 ghost use mathlib.Core.Bool.{not};
 ghost use lib.IntN.{ℤ};
 ghost use Rattle.rules.specs.Words.{word, inWord, bit, holds, bitNot, less};
-ghost use Rattle.rules.specs.State.{Memory, cellAt};
-ghost use Rattle.rules.specs.Decide.{result, jumped, called, programAddress, onDup, onSwap, onSums, onInts, onDivides, onFloats, onCompareFloats, onOne, onToFloat, onToInt, sameValue, agree, onEqual, onIsNil, onPopSp, onPopFbr, onJumpC, onJumpInd, onJsrInd};
+ghost use Rattle.rules.specs.Cells.{Cells, cellAt};
+ghost use Rattle.rules.specs.Effects.{result, jumped, called, programAddress};
+ghost use Rattle.rules.specs.Actions.{dup, swap, sums, ints, divides, floats, compareFloats, one, toFloat, toInt, sameValue, agree, equal, isNil, popSp, popFbr, jumpC, jumpInd, jsrInd};
+ghost use Rattle.machine.specs.Families.{onPair, onTop, onOperand};
 ghost use Rattle.machine.specs.Small.{Small};
 ghost use Rattle.machine.specs.Plan.{planned, Means};
 use crate::addresses;
@@ -27,7 +29,7 @@ use rules::tags;
 
 pub(crate) fn on_dup(r: Registers, top: Cell) -> Plan
     requires { ⌜ Small r ⌝ }
-    ensures { λ d. ⌜ Means r d (onDup r top) ⌝ }
+    ensures { λ d. ⌜ Means r d (onTop dup r top) ⌝ }
 {
     if r.sp < 1 {
         return TOO_FEW_VALUES;
@@ -37,7 +39,7 @@ pub(crate) fn on_dup(r: Registers, top: Cell) -> Plan
 
 pub(crate) fn on_swap(r: Registers, top: Cell) -> Plan
     requires { ⌜ Small r ⌝ }
-    ensures { λ d. ⌜ ((m : Memory) → planned r m d ≡ onSwap r (cellAt m (record { 0 = r .sp - 2 })) top) ⌝ }
+    ensures { λ d. ⌜ ((c : Cells) → planned r c d ≡ onPair swap r (cellAt c (record { 0 = r .sp - 2 })) top) ⌝ }
 {
     if r.sp < 2 {
         return TOO_FEW_VALUES;
@@ -48,7 +50,7 @@ pub(crate) fn on_swap(r: Registers, top: Cell) -> Plan
 // Two INTs, and an INT as the result.
 pub(crate) fn on_ints(v: u32, r: Registers, below: Cell, top: Cell) -> Plan
     requires { ⌜ Small r × (2 ≤ r .sp) ⌝ }
-    ensures { λ d. ⌜ Means r d (onInts v r below top) ⌝ }
+    ensures { λ d. ⌜ Means r d (onPair (ints (λ b t. v)) r below top) ⌝ }
 {
     if below.tag != tags::INT {
         return WRONG_TAG;
@@ -63,7 +65,7 @@ pub(crate) fn on_ints(v: u32, r: Registers, below: Cell, top: Cell) -> Plan
 // wrap, and an MA is refused.
 pub(crate) fn on_sums(bits: u32, in_word: bool, r: Registers, below: Cell, top: Cell) -> Plan
     requires { ⌜ Small r × (2 ≤ r .sp) ⌝ }
-    ensures { λ d. ⌜ ((z : ℤ) → bits ≡ word z → «in_word» ≡ inWord z → Means r d (onSums z r below top)) ⌝ }
+    ensures { λ d. ⌜ ((z : ℤ) → bits ≡ word z → «in_word» ≡ inWord z → Means r d (onPair (sums (λ b t. z)) r below top)) ⌝ }
 {
     if below.tag == tags::INT {
         return on_ints(bits, r, below, top);
@@ -83,7 +85,7 @@ pub(crate) fn on_sums(bits: u32, in_word: bool, r: Registers, below: Cell, top: 
 // Two INTs, the top one not zero.
 pub(crate) fn on_divides(v: u32, r: Registers, below: Cell, top: Cell) -> Plan
     requires { ⌜ Small r × (2 ≤ r .sp) ⌝ }
-    ensures { λ d. ⌜ Means r d (onDivides v r below top) ⌝ }
+    ensures { λ d. ⌜ Means r d (onPair (divides (λ b t. v)) r below top) ⌝ }
 {
     if below.tag != tags::INT {
         return WRONG_TAG;
@@ -100,7 +102,7 @@ pub(crate) fn on_divides(v: u32, r: Registers, below: Cell, top: Cell) -> Plan
 // Two FLOATs, and a FLOAT as the result.
 pub(crate) fn on_floats(v: u32, r: Registers, below: Cell, top: Cell) -> Plan
     requires { ⌜ Small r × (2 ≤ r .sp) ⌝ }
-    ensures { λ d. ⌜ Means r d (onFloats v r below top) ⌝ }
+    ensures { λ d. ⌜ Means r d (onPair (floats (λ b t. v)) r below top) ⌝ }
 {
     if below.tag != tags::FLOAT {
         return WRONG_TAG;
@@ -114,7 +116,7 @@ pub(crate) fn on_floats(v: u32, r: Registers, below: Cell, top: Cell) -> Plan
 // Two FLOATs, neither a NaN, and an INT as the result.
 pub(crate) fn on_compare_floats(r: Registers, below: Cell, top: Cell) -> Plan
     requires { ⌜ Small r × (2 ≤ r .sp) ⌝ }
-    ensures { λ d. ⌜ Means r d (onCompareFloats r below top) ⌝ }
+    ensures { λ d. ⌜ Means r d (onPair compareFloats r below top) ⌝ }
 {
     if below.tag != tags::FLOAT {
         return WRONG_TAG;
@@ -132,7 +134,7 @@ pub(crate) fn on_compare_floats(r: Registers, below: Cell, top: Cell) -> Plan
 // One INT, and an INT as the result.
 fn on_one(v: u32, r: Registers, top: Cell) -> Plan
     requires { ⌜ Small r ⌝ }
-    ensures { λ d. ⌜ Means r d (onOne v r top) ⌝ }
+    ensures { λ d. ⌜ Means r d (onTop (one (λ t. v)) r top) ⌝ }
 {
     if r.sp < 1 {
         return TOO_FEW_VALUES;
@@ -145,28 +147,28 @@ fn on_one(v: u32, r: Registers, top: Cell) -> Plan
 
 pub(crate) fn on_not(r: Registers, top: Cell) -> Plan
     requires { ⌜ Small r ⌝ }
-    ensures { λ d. ⌜ Means r d (onOne (bit (not (holds (top .bits)))) r top) ⌝ }
+    ensures { λ d. ⌜ Means r d (onTop (one (λ t. bit (not (holds t)))) r top) ⌝ }
 {
     on_one(word::logic::not(top.bits), r, top)
 }
 
 pub(crate) fn on_bit_not(r: Registers, top: Cell) -> Plan
     requires { ⌜ Small r ⌝ }
-    ensures { λ d. ⌜ Means r d (onOne (bitNot (top .bits)) r top) ⌝ }
+    ensures { λ d. ⌜ Means r d (onTop (one bitNot) r top) ⌝ }
 {
     on_one(word::bits::bit_not(top.bits), r, top)
 }
 
 pub(crate) fn on_is_pos(r: Registers, top: Cell) -> Plan
     requires { ⌜ Small r ⌝ }
-    ensures { λ d. ⌜ Means r d (onOne (bit (less 0 (top .bits))) r top) ⌝ }
+    ensures { λ d. ⌜ Means r d (onTop (one (λ t. bit (less 0 t))) r top) ⌝ }
 {
     on_one(word::tests::is_pos(top.bits), r, top)
 }
 
 pub(crate) fn on_is_neg(r: Registers, top: Cell) -> Plan
     requires { ⌜ Small r ⌝ }
-    ensures { λ d. ⌜ Means r d (onOne (bit (less (top .bits) 0)) r top) ⌝ }
+    ensures { λ d. ⌜ Means r d (onTop (one (λ t. bit (less t 0))) r top) ⌝ }
 {
     on_one(word::tests::is_neg(top.bits), r, top)
 }
@@ -174,7 +176,7 @@ pub(crate) fn on_is_neg(r: Registers, top: Cell) -> Plan
 // An INT, and the nearest FLOAT as the result.
 pub(crate) fn on_to_float(r: Registers, top: Cell) -> Plan
     requires { ⌜ Small r ⌝ }
-    ensures { λ d. ⌜ Means r d (onToFloat r top) ⌝ }
+    ensures { λ d. ⌜ Means r d (onTop toFloat r top) ⌝ }
 {
     if r.sp < 1 {
         return TOO_FEW_VALUES;
@@ -189,7 +191,7 @@ pub(crate) fn on_to_float(r: Registers, top: Cell) -> Plan
 // A FLOAT that is cut to an INT, and that INT as the result.
 pub(crate) fn on_to_int(r: Registers, top: Cell) -> Plan
     requires { ⌜ Small r ⌝ }
-    ensures { λ d. ⌜ Means r d (onToInt r top) ⌝ }
+    ensures { λ d. ⌜ Means r d (onTop toInt r top) ⌝ }
 {
     if r.sp < 1 {
         return TOO_FEW_VALUES;
@@ -226,7 +228,7 @@ fn agree(below: Cell, top: Cell) -> bool
 
 pub(crate) fn on_equal(r: Registers, below: Cell, top: Cell) -> Plan
     requires { ⌜ Small r × (2 ≤ r .sp) ⌝ }
-    ensures { λ d. ⌜ Means r d (onEqual r below top) ⌝ }
+    ensures { λ d. ⌜ Means r d (onPair equal r below top) ⌝ }
 {
     let v = word::tests::bit(agree(below, top));
     plans::result(r, 2, int_cell(v))
@@ -234,7 +236,7 @@ pub(crate) fn on_equal(r: Registers, below: Cell, top: Cell) -> Plan
 
 pub(crate) fn on_is_nil(r: Registers, top: Cell) -> Plan
     requires { ⌜ Small r ⌝ }
-    ensures { λ d. ⌜ Means r d (onIsNil r top) ⌝ }
+    ensures { λ d. ⌜ Means r d (onTop isNil r top) ⌝ }
 {
     if r.sp < 1 {
         return TOO_FEW_VALUES;
@@ -246,7 +248,7 @@ pub(crate) fn on_is_nil(r: Registers, top: Cell) -> Plan
 // An MA in 0..N-1 becomes SP.
 pub(crate) fn on_pop_sp(r: Registers, top: Cell) -> Plan
     requires { ⌜ Small r ⌝ }
-    ensures { λ d. ⌜ Means r d (onPopSp r top) ⌝ }
+    ensures { λ d. ⌜ Means r d (onTop popSp r top) ⌝ }
 {
     if r.sp < 1 {
         return TOO_FEW_VALUES;
@@ -263,7 +265,7 @@ pub(crate) fn on_pop_sp(r: Registers, top: Cell) -> Plan
 // An MA in 0..N-1 becomes FBR.
 pub(crate) fn on_pop_fbr(r: Registers, top: Cell) -> Plan
     requires { ⌜ Small r ⌝ }
-    ensures { λ d. ⌜ Means r d (onPopFbr r top) ⌝ }
+    ensures { λ d. ⌜ Means r d (onTop popFbr r top) ⌝ }
 {
     if r.sp < 1 {
         return TOO_FEW_VALUES;
@@ -280,7 +282,7 @@ pub(crate) fn on_pop_fbr(r: Registers, top: Cell) -> Plan
 // An INT, by which the jump is made or not.
 pub(crate) fn on_jump_c(r: Registers, target: u32, top: Cell) -> Plan
     requires { ⌜ Small r ⌝ }
-    ensures { λ d. ⌜ Means r d (onJumpC r target top) ⌝ }
+    ensures { λ d. ⌜ Means r d (onOperand jumpC r target top) ⌝ }
 {
     if r.sp < 1 {
         return TOO_FEW_VALUES;
@@ -296,7 +298,7 @@ pub(crate) fn on_jump_c(r: Registers, target: u32, top: Cell) -> Plan
 
 pub(crate) fn on_jump_ind(r: Registers, top: Cell) -> Plan
     requires { ⌜ Small r ⌝ }
-    ensures { λ d. ⌜ Means r d (onJumpInd r top) ⌝ }
+    ensures { λ d. ⌜ Means r d (onTop jumpInd r top) ⌝ }
 {
     if r.sp < 1 {
         return TOO_FEW_VALUES;
@@ -309,7 +311,7 @@ pub(crate) fn on_jump_ind(r: Registers, top: Cell) -> Plan
 
 pub(crate) fn on_jsr_ind(r: Registers, top: Cell) -> Plan
     requires { ⌜ Small r ⌝ }
-    ensures { λ d. ⌜ Means r d (onJsrInd r top) ⌝ }
+    ensures { λ d. ⌜ Means r d (onTop jsrInd r top) ⌝ }
 {
     if r.sp < 1 {
         return TOO_FEW_VALUES;

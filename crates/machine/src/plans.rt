@@ -2,8 +2,8 @@
 // a decision of the rules says specs/Plan.antt. Each maker below makes the plan of the effect that has its name in the rules.
 ghost use mathlib.Core.Path.{_≡_};
 ghost use Prim.Native.Nat.{_-_, _≤_};
-ghost use Rattle.rules.specs.State.{Memory, cellAt};
-ghost use Rattle.rules.specs.Decide.{result, swapped, stored, moved, framed, linked, jumped, called, halted};
+ghost use Rattle.rules.specs.Cells.{Cells, cellAt};
+ghost use Rattle.rules.specs.Effects.{result, swapped, stored, moved, framed, linked, jumped, called, halted};
 ghost use Rattle.rules.specs.declared.Decision.the-variants.{Does};
 ghost use Rattle.machine.specs.Small.{Small};
 ghost use Rattle.machine.specs.Plan.{planned, Means};
@@ -106,7 +106,7 @@ pub(crate) fn result(r: Registers, popped: usize, c: Cell) -> Plan
 // The two top values change places.
 pub(crate) fn swapped(r: Registers, top: Cell) -> Plan
     requires { ⌜ Small r × (2 ≤ r .sp) ⌝ }
-    ensures { λ d. ⌜ ((m : Memory) → planned r m d ≡ Does (swapped r (cellAt m (record { 0 = r .sp - 2 })) top)) ⌝ }
+    ensures { λ d. ⌜ ((c : Cells) → planned r c d ≡ Does (swapped r (cellAt c (record { 0 = r .sp - 2 })) top)) ⌝ }
 {
     Plan {
         shape: Shape::Rare,

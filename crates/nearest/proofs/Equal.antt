@@ -12,7 +12,7 @@ use lib.Ieee.Scale.{finite}
 use lib.Ieee.Bits.{nanBits-is, toBits-ofBits}
 use Rattle.rules.specs.Tags.{float}
 use Rattle.rules.specs.Floats.{equalF}
-use Rattle.rules.specs.Decide.{agree, nil}
+use Rattle.rules.specs.Actions.{agree, nil}
 use Rattle.rules.proofs.Tests.{by-test, either, or-left, or-right, and-left, and-right, and-then}
 use Rattle.rules.specs.Exact.{negative, fraction, isNaN, magnitude, withSign, exact}
 use Rattle.nearest.specs.Nearest.{Finite}

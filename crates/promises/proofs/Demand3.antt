@@ -1,8 +1,6 @@
--- Demand 3: "After any series of steps, runs and step-backs from a reset, with S steps and B step-backs accepted, everything (registers, cells,
--- tags, history) equals a fresh reset and S minus B steps. With history room, a step-back is refused exactly when S equals B." And request g:
--- the kept number is the number of step places in use, and S minus B, or 0 with H = 0. For every program, every lent memory that a reset accepts,
--- of any N and H, H = 0 among them, and every series, refused requests among them: `demand3`. What it says is specs/Series.antt, over the
--- definitions that the contracts of the calls cite. Assumes nothing.
+-- Demand 3, and request g's kept number: for every program, every lent memory that a reset accepts, of any N and H, H = 0 among them, every series, refused
+-- requests among them, and a fresh reset of any memory of the same sizes: `demand3`. What it says is specs/Series.antt, over the definitions that the
+-- contracts of the calls cite. Assumes nothing.
 use Prim.Native.Nat.{ℕ, _-_}
 use mathlib.Core.Path.{_≡_, refl, sym, ap, ap₂, _∙_, subst}
 use mathlib.Core.Bool.{Bool, true, false, _||_, cond}
@@ -19,10 +17,10 @@ use Rattle.rules.specs.Back.{back}
 use Rattle.rules.specs.Reset as Reset
 use Rattle.rules.specs.declared.MachineRefusal.the-variants.{NoHistory}
 use Rattle.rules.specs.declared.Begun.the-variants.{Ready}
-use Rattle.promises.specs.Series.{Request, Session, series, fresh, Promised}
+use Rattle.promises.specs.Series.{Request, Session, series, SameSizes, fresh, Promised}
 use Rattle.promises.proofs.Runs.{standing, afterSteps}
 use Rattle.promises.proofs.Demand3Trail.{State, Good, steps-trail, BackOn, nothing, one, back-on}
-use Rattle.promises.proofs.Demand3Reset.{Accepted, left, reset-accepted, good-reset, reset-empty}
+use Rattle.promises.proofs.Demand3Reset.{Accepted, left, reset-accepted, reset-sized, good-reset, reset-empty}
 use Rattle.promises.proofs.Demand3Kept.{stateOf, Kept, keep-series}
 use Rattle.promises.proofs.Demand3Number.{in-use-trail, kept-trail}
 
@@ -60,8 +58,9 @@ module _ (p : Program) (s₀ : State) (good₀ : Good p s₀) (empty : s₀ .reg
       let far : w .far ≡ s .made - s .undone = omega (arith, w .count) in
       kept-trail p s₀ good₀ empty (w .far) (stateOf s) (w .trail) ∙ ap (λ (n : ℕ). cond (ltb 0 (s .registers .h)) n 0) far
 
-pub demand3 : (p : Program) (m : Memory) → Reset.reset p m .answer .begun ≡ Ready → (qs : List Request) → Promised p m (series p qs (fresh p m))
-demand3 p m ready qs =
+-- beside a fresh reset of the same memory
+pub demand3-here : (p : Program) (m : Memory) → Reset.reset p m .answer .begun ≡ Ready → (qs : List Request) → Promised p m (series p qs (fresh p m))
+demand3-here p m ready qs =
     let a : Accepted p m = reset-accepted p m ready in
     let s₀ : State = left (Reset.reset p m) in
     let good₀ : Good p s₀ = good-reset p m a in
@@ -78,3 +77,15 @@ demand3 p m ready qs =
       in-use = in-use-trail p s₀ good₀ empty (w .far) (stateOf s) (w .trail);
       kept = kept-number p s₀ good₀ empty s w;
     }
+
+-- resets of memories of the same sizes leave the same, so the fresh one is any such memory
+fresh-sized : (p : Program) (m m′ : Memory) → Reset.reset p m .answer .begun ≡ Ready → SameSizes m m′ → fresh p m ≡ fresh p m′
+fresh-sized p m m′ ready same =
+    ap (λ (o : Reset.Started). record { registers = o .answer .registers; memory = o .memory; made = 0; undone = 0 }) (reset-sized p m m′ ready same)
+
+pub demand3 : (p : Program) (m other : Memory) → Reset.reset p m .answer .begun ≡ Ready → SameSizes m other → (qs : List Request)
+    → Promised p other (series p qs (fresh p m))
+demand3 p m other ready same qs =
+    let e : Reset.reset p m ≡ Reset.reset p other = reset-sized p m other ready same in
+    subst (λ (f : Session). Promised p other (series p qs f)) (sym (fresh-sized p m other ready same))
+    (demand3-here p other (ap (λ (o : Reset.Started). o .answer .begun) (sym e) ∙ ready) qs)

@@ -11,7 +11,7 @@ use Rattle.rules.specs.Table.{Program}
 use Rattle.rules.specs.State.{stepsInUse}
 use Rattle.rules.specs.Commit.{keeps, grown}
 use Rattle.rules.specs.declared.Effect.{Effect}
-use Rattle.rules.proofs.Effects.{sound-facts}
+use Rattle.rules.proofs.FairEffects.{sound-facts}
 use Rattle.rules.proofs.KeptSteps.{steps-judged}
 use Rattle.promises.proofs.Demand3Trail.{State, Good, Trail, good-trail}
 

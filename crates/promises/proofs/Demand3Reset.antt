@@ -17,9 +17,10 @@ use Rattle.rules.specs.declared.MachineRefusal.the-variants.{Broken, OutsideSiz
 use Rattle.rules.specs.declared.Begun.the-variants.{Ready, NotReady}
 use Rattle.rules.proofs.Tests.{every-at}
 use Rattle.rules.proofs.Fair.{FairCell}
-use Rattle.rules.proofs.Effects.{fair-plain}
+use Rattle.rules.proofs.FairEffects.{fair-plain}
 use Rattle.rules.proofs.Sound.{facts-sound}
 use Rattle.rules.proofs.Zeros.{zeros-at}
+use Rattle.promises.specs.Series.{SameSizes}
 use Rattle.promises.proofs.Demand3Trail.{State, Good}
 
 -- ---- a reset that is accepted
@@ -50,6 +51,17 @@ reset-ready p m sizes table = rw (sizes, table) refl
 
 -- ---- what it leaves
 
+-- what it leaves hangs on the sizes of the lent memory alone
+begun-sized : (m m′ : Memory) → SameSizes m m′ → begun m ≡ begun m′
+begun-sized m m′ same = rw (same .bits, same .tags, same .history)
+
+pub reset-sized : (p : Program) (m m′ : Memory) → reset p m .answer .begun ≡ Ready → SameSizes m m′ → reset p m ≡ reset p m′
+reset-sized p m m′ ready same =
+    let a : Accepted p m = reset-accepted p m ready in
+    let sizes : every (sizeTests m′) ≡ true = rw (sym (same .bits), sym (same .tags), sym (same .history)) (a .sizes) in
+    let b : Accepted p m′ = reset-accepted p m′ (reset-ready p m′ sizes (a .table)) in
+    a .leaves ∙ begun-sized m m′ same ∙ sym (b .leaves)
+
 -- where a reset leaves the machine
 abbrev pub left : Started → State
 left o = record { registers = o .answer .registers; memory = o .memory }
@@ -57,7 +69,7 @@ left o = record { registers = o .answer .registers; memory = o .memory }
 good-begun : (p : Program) (m : Memory) → Accepted p m → Good p (left (begun m))
 good-begun p m a =
     let at : (k : ℕ) → getD (sizeTests m) k true ≡ true = λ k. every-at (sizeTests m) k (a .sizes) in
-    let some : 1 ≤ length (m .bits) = leb-true _ _ (at 0) in
+    let some : 1 ≤ length (m .cells .bits) = leb-true _ _ (at 0) in
     let zero-cell : FairCell (p .count) (int 0) = fair-plain (p .count) 0 0 zero-le in
     record {
       sound =
@@ -67,8 +79,8 @@ good-begun p m a =
             some = some;
             few = leb-true _ _ (at 1);
             short = leb-true _ _ (at 2);
-            bits = length-replicate (length (m .bits)) 0;
-            tags = length-replicate (length (m .tags)) 0 ∙ eqb-true _ _ (at 3);
+            bits = length-replicate (length (m .cells .bits)) 0;
+            tags = length-replicate (length (m .cells .tags)) 0 ∙ eqb-true _ _ (at 3);
             history = length-replicate (length (m .history)) 0;
             sp = some;
             fbr = some;
@@ -77,9 +89,9 @@ good-begun p m a =
             used = zero-le;
             kept = zero-le;
             none = λ q. refl;
-            cells = λ k. rw (zeros-at (length (m .bits)) k, zeros-at (length (m .tags)) k) zero-cell;
+            cells = λ k. rw (zeros-at (length (m .cells .bits)) k, zeros-at (length (m .cells .tags)) k) zero-cell;
           });
-      narrow = λ k. rw (zeros-at (length (m .bits)) k) (lit< tt);
+      narrow = λ k. rw (zeros-at (length (m .cells .bits)) k) (lit< tt);
       blank = ap (λ (k : ℕ). replicate k 0) (sym (sub-zero (length (m .history))));
     }
 

@@ -19,7 +19,7 @@ use Rattle.rules.specs.declared.Decision.the-variants.{Does}
 use Rattle.rules.specs.declared.MachineRefusal.the-variants.{NoHistory}
 use Rattle.rules.specs.declared.Step.the-variants.{Next}
 use Rattle.rules.proofs.Fair.{Narrow, Blank}
-use Rattle.rules.proofs.Effects.{sound-facts}
+use Rattle.rules.proofs.FairEffects.{sound-facts}
 use Rattle.rules.proofs.Sound.{step-plain, sound-judged}
 use Rattle.rules.proofs.Narrow.{narrow-memory}
 use Rattle.rules.proofs.Inverse.{inverse, blank-judged}
@@ -47,12 +47,12 @@ pub record Good (p : Program) (s : State) : Type 0 where
 
 module _ (p : Program) (s : State) (g : Good p s) where
   -- what a step of a good state answers and leaves is what it decides, carried out
-  pub step-good : Step.step p (s .registers) (s .memory) ≡ carried (s .registers) (s .memory) (judged p (s .registers) (s .memory))
+  pub step-good : Step.step p (s .registers) (s .memory) ≡ carried (s .registers) (s .memory) (judged p (s .registers) (s .memory .cells))
   unfolding plainStep
   step-good = step-plain p (s .registers) (s .memory) (g .sound)
 
   -- an accepted step leaves a good state
-  pub good-committed : (e : Effect) → judged p (s .registers) (s .memory) ≡ Does e → Good p (committed s e)
+  pub good-committed : (e : Effect) → judged p (s .registers) (s .memory .cells) ≡ Does e → Good p (committed s e)
   good-committed e q =
       record {
         sound = sound-judged p (s .registers) (s .memory) e (g .sound) q;
@@ -71,7 +71,7 @@ module _ (p : Program) (s : State) (g : Good p s) where
 abbrev pub Trail : Program → State → ℕ → State → Type 0
 Trail p s₀ zero s = s ≡ s₀
 Trail p s₀ (suc k) s =
-    (t : State) × (e : Effect) × Trail p s₀ k t × (judged p (t .registers) (t .memory) ≡ Does e) × (s ≡ committed t e)
+    (t : State) × (e : Effect) × Trail p s₀ k t × (judged p (t .registers) (t .memory .cells) ≡ Does e) × (s ≡ committed t e)
 
 module _ (p : Program) (s₀ : State) (good₀ : Good p s₀) where
   pub good-trail : (k : ℕ) (s : State) → Trail p s₀ k s → Good p s

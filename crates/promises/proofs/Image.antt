@@ -148,8 +148,8 @@ module _ (p : Program) (s : soundTable p ≡ true) where
       ∙ ap (λ (k : ℕ). unpackFrom n k rest) (sym (used-count p s))
       ∙ program-back n used pad h (used-sound p s) pad-padded
 
-  filed-back : filed (unpacked image) ≡ record { answer = Length (p .count); output = p .places }
-  filed-back = rw (unpacked-back, used-count p s, used-whole p s)
+  filed-back : (table : List ℕ) → filed table (unpacked image) ≡ record { answer = Length (p .count); output = p .places }
+  filed-back table = rw (unpacked-back, used-count p s, used-whole p s)
 
 pub image-unpacks : (p : Program) (out table : List ℕ) → soundTable p ≡ true → length out ≡ imageSize → length table ≡ maxProgram → UnpackedAgain p out table
 image-unpacks p out table s ho ht =
@@ -161,5 +161,5 @@ image-unpacks p out table s ho ht =
     record {
       accepted = ap (λ (x : Filed). x .answer) e ∙ ap Length (sym l);
       fits = subst (λ (n : ℕ). n ≤ imageSize) (sym l) f;
-      again = ap (λ (x : List ℕ). unpack x table) b ∙ unpack-filed (image p s) table ht ∙ filed-back p s;
+      again = ap (λ (x : List ℕ). unpack x table) b ∙ unpack-filed (image p s) table ht ∙ filed-back p s table;
     }

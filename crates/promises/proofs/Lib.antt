@@ -23,3 +23,5 @@ pub mod Tenths
 pub mod Dwells
 -- Request g: how many steps can be taken back.
 pub mod TakesBack
+-- All of them, and those of other crates, each below its sentence.
+mod Theorems

@@ -49,9 +49,9 @@ module _ (source : List ℕ) where
   abbrev PlacedAssembly : Assembly → Type 0
   PlacedAssembly a = PlacedAnswer (a .answer)
 
-  placed-outcome : (r : Outcome) → RightOutcome (length source) r → PlacedAssembly (assembly source r)
-  placed-outcome (done ws) w = tt
-  placed-outcome (refused e at) w = placed-right e at w
+  placed-outcome : (table : List ℕ) (r : Outcome) → RightOutcome (length source) r → PlacedAssembly (assembly source table r)
+  placed-outcome table (done ws) w = tt
+  placed-outcome table (refused e at) w = placed-right e at w
 
   -- the table's length, the source's length, then what is read
   placed-answer : (table : List ℕ) → PlacedAssembly (assemble source table)
@@ -59,7 +59,7 @@ module _ (source : List ℕ) where
   placed-answer table =
       either PlacedAssembly (eqb (length table) maxProgram)
       (either PlacedAssembly (leb (length source) maxSource)
-      (placed-outcome (translated source) (translated-right source)) (placed-nowhere 21 refl))
+      (placed-outcome table (translated source) (translated-right source)) (placed-nowhere 21 refl))
       (placed-nowhere 31 refl)
 
 pub refusal-placed : (source table : List ℕ) (e : TextRefusal) (p : Position) → assemble source table .answer ≡ Fault e p

@@ -12,7 +12,7 @@ use Rattle.rules.specs.State.{Memory}
 use Rattle.rules.specs.Commit.{grown}
 use Rattle.rules.specs.Reset as Reset
 use Rattle.rules.specs.declared.Begun.the-variants.{Ready}
-use Rattle.rules.proofs.Effects.{sound-facts}
+use Rattle.rules.proofs.FairEffects.{sound-facts}
 use Rattle.promises.specs.Series.{Request, back, Session, ask, series, fresh, TakesBack}
 use Rattle.promises.proofs.Demand3Trail.{State, Good, good-trail, BackOn, nothing, one, back-on}
 use Rattle.promises.proofs.Demand3Reset.{Accepted, left, reset-accepted, good-reset, reset-empty}

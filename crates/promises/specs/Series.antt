@@ -1,11 +1,13 @@
--- Demand 3: "After any series of steps, runs and step-backs from a reset, with S steps and B step-backs accepted, everything (registers, cells,
--- tags, history) equals a fresh reset and S minus B steps. With history room, a step-back is refused exactly when S equals B." And request g: "How
--- many steps can I take back?" Here is what they say; proofs/Demand3.antt and proofs/TakesBack.antt show it. Assumes nothing.
+-- Demand 3: "From the latest accepted reset, with one program throughout, take any series of steps, limited runs and step-backs, refused ones among them,
+-- with program, registers and memory handed back untouched between calls. If S steps (those inside runs too) and B step-backs were accepted, registers,
+-- cells, tags and history equal those of a fresh reset of the same sizes followed by S minus B steps under demand 2. With history room above zero, a
+-- step-back is refused exactly when S equals B; with none, always." And request g: "How many steps can I take back?" Here is what they say;
+-- proofs/Demand3.antt and proofs/TakesBack.antt show it. Assumes nothing.
 use Prim.Native.Nat.{ℕ, _+_, _-_, _≤_, min}
 use mathlib.Core.Path.{_≡_}
 use mathlib.Core.Bool.{_||_, cond}
 use mathlib.Core.List.{List, [], _∷_}
-use lib.ListN.{replicate}
+use lib.ListN.{length, replicate}
 use lib.Dec.{ltb, eqb}
 use Rattle.rules.specs.Table.{Program}
 use Rattle.rules.specs.State.{Memory, stepsInUse}
@@ -80,6 +82,12 @@ series p (q ∷ qs) s = series p qs (ask p s q)
 abbrev pub fromHere : Session → Session
 fromHere s = record { registers = s .registers; memory = s .memory; made = 0; undone = 0 }
 
+-- "of the same sizes": as many cells, tags and history places, whatever they hold
+pub record SameSizes (m m′ : Memory) : Type 0 where
+  pub bits : length (m .cells .bits) ≡ length (m′ .cells .bits)
+  pub tags : length (m .cells .tags) ≡ length (m′ .cells .tags)
+  pub history : length (m .history) ≡ length (m′ .history)
+
 -- a fresh reset of the lent memory
 abbrev pub fresh : Program → Memory → Session
 fresh p m =
@@ -89,16 +97,16 @@ fresh p m =
 abbrev pub afresh : Program → Memory → ℕ → Session
 afresh p m k = series p (replicate k step) (fresh p m)
 
--- what is promised of a session s that began with a reset of the lent memory m
+-- what is promised of a session s, beside a fresh reset of the lent memory m, which has the sizes of the one that s began with
 pub record Promised (p : Program) (m : Memory) (s : Session) : Type 0 where
   -- no more is taken back than was made
   pub within : s .undone ≤ s .made
-  -- registers, cells, tags and history equal a fresh reset and S minus B steps
+  -- "registers, cells, tags and history equal those of a fresh reset .. followed by S minus B steps"
   pub registers : s .registers ≡ afresh p m (s .made - s .undone) .registers
   pub memory : s .memory ≡ afresh p m (s .made - s .undone) .memory
   -- each of which is accepted
   pub steps : afresh p m (s .made - s .undone) .made ≡ s .made - s .undone
-  -- a step-back is refused, with 9, exactly when S equals B, or H = 0; else it is done, with 0
+  -- "With history room above zero, a step-back is refused exactly when S equals B; with none, always.": with 9; else it is done, with 0
   pub refused : numberOfStep (Back.back p (s .registers) (s .memory) .answer)
       ≡ cond (eqb (s .registers .h) 0 || eqb (s .made) (s .undone)) (machineNumber NoHistory) 0
   -- request g: the kept number "equals the number of step places in use in every state reached"; "With H above 0 it equals S minus B; with H = 0 it is 0."

@@ -12,7 +12,8 @@ use Rattle.rules.specs.Tags.{INT, FLOAT, has}
 use Rattle.rules.specs.Words.{signed}
 use Rattle.rules.specs.Exact.{negative, exponent, noValue, isNaN}
 use Rattle.rules.specs.Table.{Program}
-use Rattle.rules.specs.State.{Memory, cellAt, sound}
+use Rattle.rules.specs.Cells.{cellAt}
+use Rattle.rules.specs.State.{Memory, sound}
 use Rattle.rules.specs.Dwell.{shortest, longest, held, wholeTenths, heldSeconds, tenthsOf, readCell, dwell}
 use Rattle.rules.specs.declared.Cell.{Cell}
 use Rattle.rules.specs.declared.Registers.{Registers}
@@ -23,7 +24,7 @@ use Rattle.rules.specs.declared.DwellRefusal.the-variants.{StateBroken, 
 use Rattle.rules.proofs.Tests.{by-test, either}
 use Rattle.rules.proofs.Readings.{signed-plus}
 use Rattle.rules.proofs.Fair.{Sound}
-use Rattle.rules.proofs.Effects.{sound-facts}
+use Rattle.rules.proofs.FairEffects.{sound-facts}
 
 -- ---- held
 
@@ -101,7 +102,7 @@ cell-between c =
 
 module _ (p : Program) (r : Registers) (m : Memory) where
   -- a sound machine has a cell 0
-  pub first-cell : sound p r m ≡ true → (0 < length (m .bits)) × (0 < length (m .tags))
+  pub first-cell : sound p r m ≡ true → (0 < length (m .cells .bits)) × (0 < length (m .cells .tags))
   first-cell s =
       let f : Sound p r m = sound-facts p r m s in
       (omega (arith, f .some, f .bits), omega (arith, f .some, f .tags))
@@ -118,7 +119,7 @@ module _ (p : Program) (r : Registers) (m : Memory) where
   unfolding dwell
   dwell-empty s h e = rw (s, eq-eqb (r .halt) 1 h, eq-eqb (r .sp) 0 e)
 
-  pub dwell-cell : sound p r m ≡ true → r .halt ≡ 1 → (r .sp ≡ 0 → ⊥) → dwell p r m ≡ readCell (cellAt m (record { 0 = 0 }))
+  pub dwell-cell : sound p r m ≡ true → r .halt ≡ 1 → (r .sp ≡ 0 → ⊥) → dwell p r m ≡ readCell (cellAt (m .cells) (record { 0 = 0 }))
   unfolding dwell
   dwell-cell s h e = rw (s, eq-eqb (r .halt) 1 h, ne-eqb (r .sp) 0 e)
 
@@ -137,4 +138,4 @@ module _ (p : Program) (r : Registers) (m : Memory) where
       (refused StateBroken)
     where
       c : Cell
-      c = cellAt m (record { 0 = 0 })
+      c = cellAt (m .cells) (record { 0 = 0 })

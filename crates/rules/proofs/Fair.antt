@@ -31,8 +31,8 @@ pub record Sound (p : Program) (r : Registers) (m : Memory) : Type 0 where
   pub some : 1 ≤ r .n
   pub few : r .n ≤ maxCells
   pub short : r .h ≤ maxHistory
-  pub bits : length (m .bits) ≡ r .n
-  pub tags : length (m .tags) ≡ r .n
+  pub bits : length (m .cells .bits) ≡ r .n
+  pub tags : length (m .cells .tags) ≡ r .n
   pub history : length (m .history) ≡ r .h
   pub sp : r .sp < r .n
   pub fbr : r .fbr < r .n
@@ -41,7 +41,7 @@ pub record Sound (p : Program) (r : Registers) (m : Memory) : Type 0 where
   pub used : r .used ≤ r .h
   pub kept : r .kept ≤ r .used
   pub none : r .kept ≡ 0 → r .used ≡ 0
-  pub cells : FairCells (p .count) (m .tags) (m .bits)
+  pub cells : FairCells (p .count) (m .cells .tags) (m .cells .bits)
 
 -- what is so where a step is accepted with the effect e
 pub record Going (p : Program) (r : Registers) (m : Memory) (e : Effect) : Type 0 where
@@ -49,7 +49,7 @@ pub record Going (p : Program) (r : Registers) (m : Memory) (e : Effect) : Type 
   pub inside : r .pc ≡ p .count → ⊥
   pub sp : e .sp < r .n
   pub room : roomFor r e ≡ true
-  pub decides : decideAt r m (getD (p .places) (r .pc) 0) ≡ Does e
+  pub decides : decideAt r (m .cells) (getD (p .places) (r .pc) 0) ≡ Does e
 
 -- the written cells lie within N, the new registers within their ranges, and the written cells may be held
 pub record Fair (p : Program) (r : Registers) (e : Effect) : Type 0 where
@@ -63,7 +63,7 @@ pub record Fair (p : Program) (r : Registers) (e : Effect) : Type 0 where
 
 -- every cell has 32 bits, as every lent slice of them has
 abbrev pub Narrow : Memory → Type 0
-Narrow m = (k : ℕ) → getD (m .bits) k 0 < 2 ^ 32
+Narrow m = (k : ℕ) → getD (m .cells .bits) k 0 < 2 ^ 32
 
 -- the places that no record uses are zero, as a reset leaves them
 abbrev pub Blank : Registers → Memory → Type 0

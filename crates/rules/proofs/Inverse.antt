@@ -14,7 +14,7 @@ use Rattle.rules.specs.Tags.{PA}
 use Rattle.rules.specs.Places.{cellPlace, stepPlace, mark, cellAddress, cellTag, cellBits, cellZeros, stepPc, stepSp, stepFbr, stepCount, stepZeros}
 use Rattle.rules.specs.Table.{Program}
 use Rattle.rules.specs.State.{Memory, sound}
-use Rattle.rules.specs.Commit.{block, cellPlaces, cellsKept, recordOf, keeps, grown, historyAfter, registersWith, registersOf, memoryOf, roomIn, roomFor}
+use Rattle.rules.specs.Commit.{block, cellPlaces, cellsKept, recordOf, keeps, grown, historyAfter, registersWith, registersOf, cellsAfter, memoryOf, roomIn, roomFor}
 use Rattle.rules.specs.Step.{judged, unchanged}
 use Rattle.rules.specs.Back.{topPlace, formedCell, formedCells, formedStep, formedTop, restored, undoneAt, undone, plainBack, back}
 use Rattle.rules.specs.declared.Registers.{Registers}
@@ -26,7 +26,7 @@ use Rattle.rules.proofs.Zeros.{take-zeros, drop-zeros}
 use Rattle.rules.proofs.Places.{cellAddress-of, cellTag-of, cellBits-of, cellMark-of, cellZeros-of, stepPc-of, stepSp-of, stepFbr-of, stepCount-of, stepMark-of, stepZeros-of}
 use Rattle.rules.proofs.Splice.{length-part, drop-splice, rest-splice, length-splice, splice-back, sets-splice}
 use Rattle.rules.proofs.Fair.{Sound, Going, Fair, Narrow, Blank}
-use Rattle.rules.proofs.Effects.{sound-facts, judged-going, going-below, fair-judged}
+use Rattle.rules.proofs.FairEffects.{sound-facts, judged-going, going-below, fair-judged}
 use Rattle.rules.proofs.Table.{table-short}
 use Rattle.rules.proofs.Sound.{pa-sound, Each, each-take, each-drop, length-block, length-kept, length-record, sound-judged}
 
@@ -41,12 +41,12 @@ keepable-zero : (count : ℕ) → Keepable count 0 0
 keepable-zero count = record { tag = lit< tt; bits = lit< tt; pa = λ q. zero-le }
 
 keepable : (p : Program) (r : Registers) (m : Memory) → Sound p r m → Narrow m → (i n : ℕ)
-    → Each (Keepable (p .count)) (part i n (m .tags)) (part i n (m .bits))
+    → Each (Keepable (p .count)) (part i n (m .cells .tags)) (part i n (m .cells .bits))
 keepable p r m s w i n =
-    let even : length (m .tags) ≡ length (m .bits) = s .tags ∙ sym (s .bits) in
-    each-take (Keepable (p .count)) (keepable-zero (p .count)) n (drop i (m .tags)) (drop i (m .bits))
-    (length-drop i (m .tags) ∙ ap (λ (k : ℕ). k - i) even ∙ sym (length-drop i (m .bits)))
-    (each-drop (Keepable (p .count)) (keepable-zero (p .count)) i (m .tags) (m .bits)
+    let even : length (m .cells .tags) ≡ length (m .cells .bits) = s .tags ∙ sym (s .bits) in
+    each-take (Keepable (p .count)) (keepable-zero (p .count)) n (drop i (m .cells .tags)) (drop i (m .cells .bits))
+    (length-drop i (m .cells .tags) ∙ ap (λ (k : ℕ). k - i) even ∙ sym (length-drop i (m .cells .bits)))
+    (each-drop (Keepable (p .count)) (keepable-zero (p .count)) i (m .cells .tags) (m .cells .bits)
     (λ k. record { tag = omega (arith, s .cells k .tag); bits = w k; pa = s .cells k .pa }))
 
 -- ---- what cell places keep, put back from address a on
@@ -135,30 +135,26 @@ registersKept r e = registersWith r e (r .used + (e .count + 1)) (r .kept + 1)
 
 abbrev memoryKept : Registers → Memory → Effect → Memory
 memoryKept r m e =
-    record {
-      bits = splice (m .bits) (e .at) (block (e .count) (e .first .bits) (e .second .bits));
-      tags = splice (m .tags) (e .at) (block (e .count) (e .first .tag) (e .second .tag));
-      history = splice (m .history) (r .used) (recordOf r m e);
-    }
+    record { cells = cellsAfter (m .cells) e; history = splice (m .history) (r .used) (recordOf r (m .cells) e) }
 
 module _ (p : Program) (r : Registers) (m : Memory) (e : Effect) (s : Sound p r m) (w : Narrow m) (below : r .pc < p .count)
     (fits : e .at + e .count ≤ r .n) (room : r .used + (e .count + 1) ≤ r .h) where
-  fits-tags : e .at + e .count ≤ length (m .tags)
+  fits-tags : e .at + e .count ≤ length (m .cells .tags)
   fits-tags = omega (arith, s .tags)
 
-  fits-bits : e .at + e .count ≤ length (m .bits)
+  fits-bits : e .at + e .count ≤ length (m .cells .bits)
   fits-bits = omega (arith, s .bits)
 
-  old-tags : length (part (e .at) (e .count) (m .tags)) ≡ e .count
-  old-tags = length-part (e .at) (e .count) (m .tags) fits-tags
+  old-tags : length (part (e .at) (e .count) (m .cells .tags)) ≡ e .count
+  old-tags = length-part (e .at) (e .count) (m .cells .tags) fits-tags
 
-  old-bits : length (part (e .at) (e .count) (m .bits)) ≡ e .count
-  old-bits = length-part (e .at) (e .count) (m .bits) fits-bits
+  old-bits : length (part (e .at) (e .count) (m .cells .bits)) ≡ e .count
+  old-bits = length-part (e .at) (e .count) (m .cells .bits) fits-bits
 
   room-history : r .used + (e .count + 1) ≤ length (m .history)
   room-history = omega (arith, s .history)
 
-  old : Each (Keepable (p .count)) (part (e .at) (e .count) (m .tags)) (part (e .at) (e .count) (m .bits))
+  old : Each (Keepable (p .count)) (part (e .at) (e .count) (m .cells .tags)) (part (e .at) (e .count) (m .cells .bits))
   old = keepable p r m s w (e .at) (e .count)
 
   hp : r .pc < 2 ^ 11
@@ -177,7 +173,7 @@ module _ (p : Program) (r : Registers) (m : Memory) (e : Effect) (s : Sound p r 
   made = stepPlace (r .pc) (r .sp) (r .fbr) (e .count)
 
   top-is : topPlace (registersKept r e) (memoryKept r m e) ≡ made
-  top-is = step-top (m .history) (r .used) (e .count) (cellsKept m e) made (length-kept m e fits-tags fits-bits) room-history
+  top-is = step-top (m .history) (r .used) (e .count) (cellsKept (m .cells) e) made (length-kept m e fits-tags fits-bits) room-history
 
   from-is : r .used + (e .count + 1) - 1 - e .count ≡ r .used
   from-is = omega arith
@@ -185,10 +181,10 @@ module _ (p : Program) (r : Registers) (m : Memory) (e : Effect) (s : Sound p r 
   one-less : r .kept + 1 - 1 ≡ r .kept
   one-less = omega arith
 
-  cells-are : part (r .used + (e .count + 1) - 1 - e .count) (e .count) (memoryKept r m e .history) ≡ cellsKept m e
+  cells-are : part (r .used + (e .count + 1) - 1 - e .count) (e .count) (memoryKept r m e .history) ≡ cellsKept (m .cells) e
   cells-are =
       ap (λ (k : ℕ). part k (e .count) (memoryKept r m e .history)) from-is
-      ∙ cells-top (m .history) (r .used) (e .count) (cellsKept m e) made (length-kept m e fits-tags fits-bits) room-history
+      ∙ cells-top (m .history) (r .used) (e .count) (cellsKept (m .cells) e) made (length-kept m e fits-tags fits-bits) room-history
 
   pc-is : stepPc (topPlace (registersKept r e) (memoryKept r m e)) ≡ r .pc
   pc-is = ap stepPc top-is ∙ stepPc-of (r .pc) (r .sp) (r .fbr) (e .count) hp hs hf hc
@@ -213,38 +209,38 @@ module _ (p : Program) (r : Registers) (m : Memory) (e : Effect) (s : Sound p r 
       (omega (arith, pc-is)) (omega (arith, sp-is, s .sp)) (omega (arith, fbr-is, s .fbr)) (omega (arith, count-is)))
       (ap (formedCells (r .n) (p .count) 0)
       (ap (λ (k : ℕ). part (r .used + (e .count + 1) - 1 - k) k (memoryKept r m e .history)) count-is ∙ cells-are)
-      ∙ cells-formed (r .n) (p .count) 0 (e .at) (part (e .at) (e .count) (m .tags)) (part (e .at) (e .count) (m .bits)) zero-le
+      ∙ cells-formed (r .n) (p .count) 0 (e .at) (part (e .at) (e .count) (m .cells .tags)) (part (e .at) (e .count) (m .cells .bits)) zero-le
       (omega (arith, old-bits)) (s .few) old)
 
   -- a list of N cells, written over by ws, has its old numbers again
   cells-back : (read : ℕ → ℕ) (f : ℕ → ℕ → ℕ) → ((a t b : ℕ) → a < 2 ^ 10 → t < 2 ^ 2 → b < 2 ^ 32 → read (cellPlace a t b) ≡ f t b)
       → (l ws : List ℕ) → length l ≡ r .n → length ws ≡ e .count
-      → picked f (part (e .at) (e .count) (m .tags)) (part (e .at) (e .count) (m .bits)) ≡ part (e .at) (e .count) l
-      → restored read (cellsKept m e) (splice l (e .at) ws) ≡ l
+      → picked f (part (e .at) (e .count) (m .cells .tags)) (part (e .at) (e .count) (m .cells .bits)) ≡ part (e .at) (e .count) l
+      → restored read (cellsKept (m .cells) e) (splice l (e .at) ws) ≡ l
   cells-back read f reads l ws ll lw picks =
       let fl : e .at + e .count ≤ length l = omega arith in
       let lp : length (part (e .at) (e .count) l) ≡ e .count = length-part (e .at) (e .count) l fl in
-      restored-sets (p .count) read f reads (e .at) (part (e .at) (e .count) (m .tags)) (part (e .at) (e .count) (m .bits))
+      restored-sets (p .count) read f reads (e .at) (part (e .at) (e .count) (m .cells .tags)) (part (e .at) (e .count) (m .cells .bits))
       (splice l (e .at) ws) (omega (arith, old-bits, s .few)) old
       ∙ ap (sets (splice l (e .at) ws) (e .at)) picks
       ∙ sets-splice (part (e .at) (e .count) l) (splice l (e .at) ws) (e .at) (omega (arith, lp, fl, length-splice l (e .at) ws (omega arith)))
       ∙ splice-back l (e .at) (e .count) ws (part (e .at) (e .count) l) lw fl refl
 
-  bits-back : restored cellBits (cellsKept m e) (memoryKept r m e .bits) ≡ m .bits
+  bits-back : restored cellBits (cellsKept (m .cells) e) (memoryKept r m e .cells .bits) ≡ m .cells .bits
   bits-back =
-      cells-back cellBits (λ t b. b) cellBits-of (m .bits) (block (e .count) (e .first .bits) (e .second .bits)) (s .bits)
+      cells-back cellBits (λ t b. b) cellBits-of (m .cells .bits) (block (e .count) (e .first .bits) (e .second .bits)) (s .bits)
       (length-block (e .count) (e .first .bits) (e .second .bits))
-      (picked-bits (part (e .at) (e .count) (m .tags)) (part (e .at) (e .count) (m .bits)) (old-tags ∙ sym old-bits))
+      (picked-bits (part (e .at) (e .count) (m .cells .tags)) (part (e .at) (e .count) (m .cells .bits)) (old-tags ∙ sym old-bits))
 
-  tags-back : restored cellTag (cellsKept m e) (memoryKept r m e .tags) ≡ m .tags
+  tags-back : restored cellTag (cellsKept (m .cells) e) (memoryKept r m e .cells .tags) ≡ m .cells .tags
   tags-back =
-      cells-back cellTag (λ t b. t) cellTag-of (m .tags) (block (e .count) (e .first .tag) (e .second .tag)) (s .tags)
+      cells-back cellTag (λ t b. t) cellTag-of (m .cells .tags) (block (e .count) (e .first .tag) (e .second .tag)) (s .tags)
       (length-block (e .count) (e .first .tag) (e .second .tag))
-      (picked-tags (part (e .at) (e .count) (m .tags)) (part (e .at) (e .count) (m .bits)) (old-tags ∙ sym old-bits))
+      (picked-tags (part (e .at) (e .count) (m .cells .tags)) (part (e .at) (e .count) (m .cells .bits)) (old-tags ∙ sym old-bits))
 
   history-back : Blank r m → splice (memoryKept r m e .history) (r .used) (replicate (e .count + 1) 0) ≡ m .history
   history-back blank =
-      zeros-top (m .history) (r .used) (e .count) (cellsKept m e) made (length-kept m e fits-tags fits-bits) room-history
+      zeros-top (m .history) (r .used) (e .count) (cellsKept (m .cells) e) made (length-kept m e fits-tags fits-bits) room-history
       (ap (take (e .count + 1)) blank ∙ take-zeros (e .count + 1) (r .h - r .used) (omega arith))
 
   undone-kept : r .halt ≡ 0 → Blank r m → undone (registersKept r e) (memoryKept r m e) ≡ record { answer = Next r; memory = m }
@@ -255,8 +251,10 @@ module _ (p : Program) (r : Registers) (m : Memory) (e : Effect) (s : Sound p r 
             Next
             (record { n = r .n; h = r .h; pc = r .pc; sp = r .sp; fbr = r .fbr; halt = sym running i; used = from-is i; kept = one-less i });
         memory = record {
-          bits = (ap (λ (l : List ℕ). restored cellBits l (memoryKept r m e .bits)) cells-are ∙ bits-back) i;
-          tags = (ap (λ (l : List ℕ). restored cellTag l (memoryKept r m e .tags)) cells-are ∙ tags-back) i;
+          cells = record {
+            bits = (ap (λ (l : List ℕ). restored cellBits l (memoryKept r m e .cells .bits)) cells-are ∙ bits-back) i;
+            tags = (ap (λ (l : List ℕ). restored cellTag l (memoryKept r m e .cells .tags)) cells-are ∙ tags-back) i;
+          };
           history = (ap (λ (k : ℕ). splice (memoryKept r m e .history) k (replicate (e .count + 1) 0)) from-is ∙ history-back blank) i;
         };
       })
@@ -282,7 +280,7 @@ module _ (r : Registers) (e : Effect) (some : 0 < r .h) where
 
 -- a step-back undoes an accepted step exactly
 pub inverse : (p : Program) (r : Registers) (m : Memory) (e : Effect) → sound p r m ≡ true → Narrow m → Blank r m → 0 < r .h
-    → judged p r m ≡ Does e → back p (registersOf r e) (memoryOf r m e) ≡ record { answer = Next r; memory = m }
+    → judged p r (m .cells) ≡ Does e → back p (registersOf r e) (memoryOf r m e) ≡ record { answer = Next r; memory = m }
 unfolding back
 inverse p r m e h w blank some q =
     let s : Sound p r m = sound-facts p r m h in
@@ -302,10 +300,10 @@ module _ (u n h : ℕ) (l added : List ℕ) (low : u ≤ h) (ll : length l ≡ h
       ∙ ap (λ (k : ℕ). replicate k 0) left
   blank-after false q = blank
 
-pub blank-judged : (p : Program) (r : Registers) (m : Memory) (e : Effect) → sound p r m ≡ true → Blank r m → judged p r m ≡ Does e
+pub blank-judged : (p : Program) (r : Registers) (m : Memory) (e : Effect) → sound p r m ≡ true → Blank r m → judged p r (m .cells) ≡ Does e
     → Blank (registersOf r e) (memoryOf r m e)
 blank-judged p r m e h blank q =
     let s : Sound p r m = sound-facts p r m h in
     let f : Fair p r e = fair-judged p r m e h q in
-    blank-after (r .used) (e .count + 1) (r .h) (m .history) (recordOf r m e) (s .used) (s .history)
+    blank-after (r .used) (e .count + 1) (r .h) (m .history) (recordOf r (m .cells) e) (s .used) (s .history)
     (length-record m e (omega (arith, f .fits, s .tags)) (omega (arith, f .fits, s .bits)) r) blank (keeps r) (judged-going p r m e q .room)

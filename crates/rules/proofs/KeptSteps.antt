@@ -19,7 +19,7 @@ use Rattle.rules.specs.declared.Decision.the-variants.{Does}
 use Rattle.rules.proofs.Places.{cellMark-of, stepMark-of}
 use Rattle.rules.proofs.Splice.{through-splice}
 use Rattle.rules.proofs.Fair.{Sound, Fair}
-use Rattle.rules.proofs.Effects.{sound-facts, judged-going, fair-judged}
+use Rattle.rules.proofs.FairEffects.{sound-facts, judged-going, fair-judged}
 use Rattle.rules.proofs.Sound.{length-record}
 
 -- ---- the step places of a record
@@ -37,11 +37,11 @@ cells-no-steps a [] bs = refl
 cells-no-steps a (t ∷ ts) [] = refl
 cells-no-steps a (t ∷ ts) (b ∷ bs) = rw (cellMark-of a t b) (cells-no-steps (suc a) ts bs)
 
-record-one-step : (r : Registers) (m : Memory) (e : Effect) → stepPlaces (recordOf r m e) ≡ 1
+record-one-step : (r : Registers) (m : Memory) (e : Effect) → stepPlaces (recordOf r (m .cells) e) ≡ 1
 record-one-step r m e =
     let last : ℕ = stepPlace (r .pc) (r .sp) (r .fbr) (e .count) in
     let one : stepPlaces (last ∷ []) ≡ 1 = rw (stepMark-of (r .pc) (r .sp) (r .fbr) (e .count)) refl in
-    steps-append (cellsKept m e) (last ∷ []) ∙ ap₂ _+_ (cells-no-steps (e .at) (part (e .at) (e .count) (m .tags)) (part (e .at) (e .count) (m .bits))) one
+    steps-append (cellsKept (m .cells) e) (last ∷ []) ∙ ap₂ _+_ (cells-no-steps (e .at) (part (e .at) (e .count) (m .cells .tags)) (part (e .at) (e .count) (m .cells .bits))) one
 
 -- ---- the step places in use after a step
 
@@ -53,11 +53,11 @@ module _ (u n h : ℕ) (l added : List ℕ) (low : u ≤ h) (ll : length l ≡ h
       ap stepPlaces (through-splice l u added (omega arith) n la) ∙ steps-append (take u l) added
   steps-after false q = refl
 
-pub steps-judged : (p : Program) (r : Registers) (m : Memory) (e : Effect) → sound p r m ≡ true → judged p r m ≡ Does e
+pub steps-judged : (p : Program) (r : Registers) (m : Memory) (e : Effect) → sound p r m ≡ true → judged p r (m .cells) ≡ Does e
     → stepsInUse (registersOf r e) (memoryOf r m e) ≡ grown (keeps r) (stepsInUse r m) 1
 steps-judged p r m e h q =
     let s : Sound p r m = sound-facts p r m h in
     let f : Fair p r e = fair-judged p r m e h q in
-    steps-after (r .used) (e .count + 1) (r .h) (m .history) (recordOf r m e) (s .used) (s .history)
+    steps-after (r .used) (e .count + 1) (r .h) (m .history) (recordOf r (m .cells) e) (s .used) (s .history)
     (length-record m e (omega (arith, f .fits, s .tags)) (omega (arith, f .fits, s .bits)) r) (keeps r) (judged-going p r m e q .room)
     ∙ ap (grown (keeps r) (stepsInUse r m)) (record-one-step r m e)

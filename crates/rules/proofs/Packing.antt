@@ -120,25 +120,19 @@ image-fits p s =
 
 -- ---- the three answers
 module _ (p : Program) (out : List ℕ) where
-  abbrev refusedLength : Filed
-  refusedLength = record { answer = Denied OutputLength; output = out }
-
-  abbrev refusedTable : Filed
-  refusedTable = record { answer = Denied TableBroken; output = replicate imageSize 0 }
-
   abbrev accepted : Filed
   accepted = record { answer = Length (imageLength p); output = packedTo imageSize (imageBits p) }
 
   -- 31
-  pub pack-length : (length out ≡ imageSize → ⊥) → pack p out ≡ refusedLength
+  pub pack-length : (length out ≡ imageSize → ⊥) → pack p out ≡ record { answer = Denied OutputLength; output = out }
   unfolding pack
-  pack-length h = ap (λ (b : Bool). cond b (cond (soundTable p) accepted refusedTable) refusedLength) (ne-eqb (length out) imageSize h)
+  pack-length h = rw (ne-eqb (length out) imageSize h)
 
   -- 10
-  pub pack-broken : length out ≡ imageSize → soundTable p ≡ false → pack p out ≡ refusedTable
+  pub pack-broken : length out ≡ imageSize → soundTable p ≡ false → pack p out ≡ record { answer = Denied TableBroken; output = replicate imageSize 0 }
   unfolding pack
-  pack-broken h e = ap₂ (λ (b d : Bool). cond b (cond d accepted refusedTable) refusedLength) (eq-eqb (length out) imageSize h) e
+  pack-broken h e = rw (eq-eqb (length out) imageSize h, e)
 
   pub pack-done : length out ≡ imageSize → soundTable p ≡ true → pack p out ≡ accepted
   unfolding pack
-  pack-done h e = ap₂ (λ (b d : Bool). cond b (cond d accepted refusedTable) refusedLength) (eq-eqb (length out) imageSize h) e
+  pack-done h e = rw (eq-eqb (length out) imageSize h, e)

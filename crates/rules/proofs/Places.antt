@@ -1,119 +1,107 @@
--- The history places as sums of products, and their fields as quotients and remainders; and what is packed is read back. Assumes nothing.
-use Prim.Native.Nat.{ℕ, _+_, _*_, _/_, _%_, _^_, _<_}
+-- The history places: one field of a place as a quotient and a remainder, and what is packed is read back, for any layout of 64 bits. Then the two places.
+-- Assumes nothing.
+use Prim.Native.Nat.{ℕ, zero, suc, _+_, _*_, _/_, _%_, _^_, _<_}
 use mathlib.Core.Path.{_≡_, refl, sym, ap, _∙_}
-use mathlib.Core.List.{List, _++_}
+use mathlib.Core.List.{List, [], _∷_}
+use native.Mathlib.Nat.{mod-eq-of-lt}
 use native.Mathlib.Omega.{arith}
+use lib.ListN.{getD, take, drop}
 use Rattle.rules.specs.Lists.{part}
-use Rattle.rules.specs.Fields.{field, value}
-use Rattle.rules.specs.Places.{read, cellPlace, stepPlace, mark, cellAddress, cellTag, cellBits, cellZeros, stepPc, stepSp, stepFbr, stepCount, stepZeros}
-use Rattle.rules.proofs.Fields.{field-length, value-field, value-append, field-at}
+use Rattle.rules.specs.Fields.{field, value, side, total, fieldIn}
+use Rattle.rules.specs.Places.{placeWidth, packed, fieldOf, cellLayout, stepLayout, cellPlace, stepPlace, mark, cellAddress, cellTag, cellBits, cellZeros, stepPc, stepSp, stepFbr, stepCount, stepZeros}
+use Rattle.rules.proofs.Fields.{value-field, field-at}
+use Rattle.rules.proofs.Bits.{field-value}
+use Rattle.rules.proofs.Layouts.{side-length, side-bits, side-read, side-value}
 
--- ---- one field of a place, with k bits below it
+-- ---- any place
 
-pub read-is : (at w k p : ℕ) → at + w + k ≡ 64 → read at w p ≡ p / 2 ^ k % 2 ^ w
-unfolding read
-read-is at w k p e =
+-- what is packed is read back, of a number that does not fit its low bits
+read-back : (ws vs : List ℕ) (i : ℕ) → total ws ≡ placeWidth → fieldOf ws i (packed ws vs) ≡ getD vs i 0 % 2 ^ getD ws i 0
+read-back ws vs i e =
+    ap (fieldIn ws i)
+    (ap (λ (n : ℕ). field n (packed ws vs)) (sym (side-length ws vs ∙ e)) ∙ field-value (side ws vs) (side-bits ws vs))
+    ∙ side-read ws vs i
+
+reads : (ws vs : List ℕ) (i : ℕ) → total ws ≡ placeWidth → getD vs i 0 < 2 ^ getD ws i 0 → fieldOf ws i (packed ws vs) ≡ getD vs i 0
+reads ws vs i e h = read-back ws vs i e ∙ mod-eq-of-lt h
+
+-- field i of any place, with those behind it
+pub field-is : (ws : List ℕ) (i p : ℕ) → total (take i ws) + getD ws i 0 + total (drop (suc i) ws) ≡ placeWidth
+    → fieldOf ws i p ≡ p / 2 ^ total (drop (suc i) ws) % 2 ^ getD ws i 0
+field-is ws i p e =
+    let at = total (take i ws) in
+    let w = getD ws i 0 in
+    let k = total (drop (suc i) ws) in
     ap (λ (n : ℕ). value (part at w (field n p))) (sym e) ∙ ap value (field-at at w k p) ∙ value-field w (p / 2 ^ k)
 
-pub mark-is : (p : ℕ) → mark p ≡ p / 2 ^ 63 % 2 ^ 1
-unfolding mark
-mark-is p = read-is 0 1 63 p refl
+-- ---- the fields of the two places that are asked for as numbers
 
 pub cellAddress-is : (p : ℕ) → cellAddress p ≡ p / 2 ^ 53 % 2 ^ 10
 unfolding cellAddress
-cellAddress-is p = read-is 1 10 53 p refl
-
-pub cellTag-is : (p : ℕ) → cellTag p ≡ p / 2 ^ 51 % 2 ^ 2
-unfolding cellTag
-cellTag-is p = read-is 11 2 51 p refl
-
-pub cellBits-is : (p : ℕ) → cellBits p ≡ p / 2 ^ 19 % 2 ^ 32
-unfolding cellBits
-cellBits-is p = read-is 13 32 19 p refl
+cellAddress-is p = field-is cellLayout 1 p refl
 
 pub cellZeros-is : (p : ℕ) → cellZeros p ≡ p / 2 ^ 0 % 2 ^ 19
 unfolding cellZeros
-cellZeros-is p = read-is 45 19 0 p refl
-
-pub stepPc-is : (p : ℕ) → stepPc p ≡ p / 2 ^ 52 % 2 ^ 11
-unfolding stepPc
-stepPc-is p = read-is 1 11 52 p refl
-
-pub stepSp-is : (p : ℕ) → stepSp p ≡ p / 2 ^ 42 % 2 ^ 10
-unfolding stepSp
-stepSp-is p = read-is 12 10 42 p refl
-
-pub stepFbr-is : (p : ℕ) → stepFbr p ≡ p / 2 ^ 32 % 2 ^ 10
-unfolding stepFbr
-stepFbr-is p = read-is 22 10 32 p refl
-
-pub stepCount-is : (p : ℕ) → stepCount p ≡ p / 2 ^ 22 % 2 ^ 10
-unfolding stepCount
-stepCount-is p = read-is 32 10 22 p refl
+cellZeros-is p = field-is cellLayout 4 p refl
 
 pub stepZeros-is : (p : ℕ) → stepZeros p ≡ p / 2 ^ 0 % 2 ^ 22
 unfolding stepZeros
-stepZeros-is p = read-is 42 22 0 p refl
+stepZeros-is p = field-is stepLayout 5 p refl
 
--- ---- the two places
-
--- for all numbers: of one that does not fit, its low bits
-fields5 : (a t b : ℕ) → value (field 1 0 ++ field 10 a ++ field 2 t ++ field 32 b ++ field 19 0)
-    ≡ a % 2 ^ 10 * 2 ^ 53 + t % 2 ^ 2 * 2 ^ 51 + b % 2 ^ 32 * 2 ^ 19
-fields5 a t b = simp (value-append, field-length, value-field) (omega arith)
-
-fields6 : (pc sp fbr k : ℕ)
-    → value (field 1 1 ++ field 11 pc ++ field 10 sp ++ field 10 fbr ++ field 10 k ++ field 22 0)
-    ≡ 2 ^ 63 + pc % 2 ^ 11 * 2 ^ 52 + sp % 2 ^ 10 * 2 ^ 42 + fbr % 2 ^ 10 * 2 ^ 32 + k % 2 ^ 10 * 2 ^ 22
-fields6 pc sp fbr k = simp (value-append, field-length, value-field) (omega arith)
+-- ---- the two places: of a number that does not fit, its low bits
 
 pub cellPlace-low : (a t b : ℕ) → cellPlace a t b ≡ a % 2 ^ 10 * 2 ^ 53 + t % 2 ^ 2 * 2 ^ 51 + b % 2 ^ 32 * 2 ^ 19
 unfolding cellPlace
-cellPlace-low a t b = fields5 a t b
+cellPlace-low a t b = side-value cellLayout (0 ∷ a ∷ t ∷ b ∷ []) ∙ omega arith
 
 pub stepPlace-low : (pc sp fbr k : ℕ)
     → stepPlace pc sp fbr k ≡ 2 ^ 63 + pc % 2 ^ 11 * 2 ^ 52 + sp % 2 ^ 10 * 2 ^ 42 + fbr % 2 ^ 10 * 2 ^ 32 + k % 2 ^ 10 * 2 ^ 22
 unfolding stepPlace
-stepPlace-low pc sp fbr k = fields6 pc sp fbr k
+stepPlace-low pc sp fbr k = side-value stepLayout (1 ∷ pc ∷ sp ∷ fbr ∷ k ∷ []) ∙ omega arith
 
 -- their marks, so that the one kind is never taken for the other
 pub cellMark-of : (a t b : ℕ) → mark (cellPlace a t b) ≡ 0
-cellMark-of a t b = rw (cellPlace-low a t b, mark-is) (omega arith)
+unfolding mark cellPlace
+cellMark-of a t b = read-back cellLayout (0 ∷ a ∷ t ∷ b ∷ []) 0 refl
 
 pub stepMark-of : (pc sp fbr k : ℕ) → mark (stepPlace pc sp fbr k) ≡ 1
-stepMark-of pc sp fbr k = rw (stepPlace-low pc sp fbr k, mark-is) (omega arith)
+unfolding mark stepPlace
+stepMark-of pc sp fbr k = read-back stepLayout (1 ∷ pc ∷ sp ∷ fbr ∷ k ∷ []) 0 refl
 
 module _ (a t b : ℕ) (ha : a < 2 ^ 10) (ht : t < 2 ^ 2) (hb : b < 2 ^ 32) where
-  pub cellPlace-is : cellPlace a t b ≡ a * 2 ^ 53 + t * 2 ^ 51 + b * 2 ^ 19
-  cellPlace-is = cellPlace-low a t b ∙ omega arith
-
   pub cellAddress-of : cellAddress (cellPlace a t b) ≡ a
-  cellAddress-of = rw (cellPlace-is, cellAddress-is) (omega arith)
+  unfolding cellAddress cellPlace
+  cellAddress-of = reads cellLayout (0 ∷ a ∷ t ∷ b ∷ []) 1 refl ha
 
   pub cellTag-of : cellTag (cellPlace a t b) ≡ t
-  cellTag-of = rw (cellPlace-is, cellTag-is) (omega arith)
+  unfolding cellTag cellPlace
+  cellTag-of = reads cellLayout (0 ∷ a ∷ t ∷ b ∷ []) 2 refl ht
 
   pub cellBits-of : cellBits (cellPlace a t b) ≡ b
-  cellBits-of = rw (cellPlace-is, cellBits-is) (omega arith)
+  unfolding cellBits cellPlace
+  cellBits-of = reads cellLayout (0 ∷ a ∷ t ∷ b ∷ []) 3 refl hb
 
   pub cellZeros-of : cellZeros (cellPlace a t b) ≡ 0
-  cellZeros-of = rw (cellPlace-is, cellZeros-is) (omega arith)
+  unfolding cellZeros cellPlace
+  cellZeros-of = read-back cellLayout (0 ∷ a ∷ t ∷ b ∷ []) 4 refl
 
 module _ (pc sp fbr k : ℕ) (hp : pc < 2 ^ 11) (hs : sp < 2 ^ 10) (hf : fbr < 2 ^ 10) (hk : k < 2 ^ 10) where
-  pub stepPlace-is : stepPlace pc sp fbr k ≡ 2 ^ 63 + pc * 2 ^ 52 + sp * 2 ^ 42 + fbr * 2 ^ 32 + k * 2 ^ 22
-  stepPlace-is = stepPlace-low pc sp fbr k ∙ omega arith
-
   pub stepPc-of : stepPc (stepPlace pc sp fbr k) ≡ pc
-  stepPc-of = rw (stepPlace-is, stepPc-is) (omega arith)
+  unfolding stepPc stepPlace
+  stepPc-of = reads stepLayout (1 ∷ pc ∷ sp ∷ fbr ∷ k ∷ []) 1 refl hp
 
   pub stepSp-of : stepSp (stepPlace pc sp fbr k) ≡ sp
-  stepSp-of = rw (stepPlace-is, stepSp-is) (omega arith)
+  unfolding stepSp stepPlace
+  stepSp-of = reads stepLayout (1 ∷ pc ∷ sp ∷ fbr ∷ k ∷ []) 2 refl hs
 
   pub stepFbr-of : stepFbr (stepPlace pc sp fbr k) ≡ fbr
-  stepFbr-of = rw (stepPlace-is, stepFbr-is) (omega arith)
+  unfolding stepFbr stepPlace
+  stepFbr-of = reads stepLayout (1 ∷ pc ∷ sp ∷ fbr ∷ k ∷ []) 3 refl hf
 
   pub stepCount-of : stepCount (stepPlace pc sp fbr k) ≡ k
-  stepCount-of = rw (stepPlace-is, stepCount-is) (omega arith)
+  unfolding stepCount stepPlace
+  stepCount-of = reads stepLayout (1 ∷ pc ∷ sp ∷ fbr ∷ k ∷ []) 4 refl hk
 
   pub stepZeros-of : stepZeros (stepPlace pc sp fbr k) ≡ 0
-  stepZeros-of = rw (stepPlace-is, stepZeros-is) (omega arith)
+  unfolding stepZeros stepPlace
+  stepZeros-of = read-back stepLayout (1 ∷ pc ∷ sp ∷ fbr ∷ k ∷ []) 5 refl

@@ -1,5 +1,4 @@
--- A sound state that takes an accepted step is sound again; so a plain step is a step there. And what a decision is never hangs on the history.
--- Assumes nothing.
+-- A sound state that takes an accepted step is sound again; so a plain step is a step there. Assumes nothing.
 use Prim.Native.Nat.{ℕ, zero, suc, _+_, _-_, _≤_, zero-le, min}
 use mathlib.Core.Path.{_≡_, refl, sym, ap, ap₂, _∙_, subst, subst₂}
 use mathlib.Core.Bool.{Bool, true, false, not, _&&_, _||_}
@@ -12,24 +11,23 @@ use borrow.Author.Tests.{leb-true, eqb-true, lt-ltb, le-leb, eq-eqb}
 use Rattle.rules.specs.Lists.{part, splice}
 use Rattle.rules.specs.Tags.{PA}
 use Rattle.rules.specs.Places.{stepPlace}
-use Rattle.rules.specs.Instructions.{Action, stop, pushInt, pushFloat, pushPa, dup, swap, sums, ints, divides, floats, compareFloats, one, toFloat, toInt, equal, isNil, pushSp, popSp, pushFbr, popFbr, link, addSp, pushInd, storeInd, pushOff, storeOff, jump, jumpC, jumpInd, jsr, jsrInd, actionOf}
-use Rattle.rules.specs.Table.{Program, codeOf, operandOf}
-use Rattle.rules.specs.State.{Memory, memory, cellAt, soundCell, soundCells, sound}
-use Rattle.rules.specs.Decide.{demand, onValues, decide}
+use Rattle.rules.specs.Table.{Program}
+use Rattle.rules.specs.State.{Memory, soundCell, soundCells, sound}
+use Rattle.rules.specs.Decide.{demand}
 use Rattle.rules.specs.Commit.{block, cellPlaces, cellsKept, recordOf, keeps, grown, historyAfter, registersOf, memoryOf, roomIn, roomFor}
-use Rattle.rules.specs.Step.{decideAt, fitted, judged, carried, plainStep, step}
+use Rattle.rules.specs.Step.{judged, carried, plainStep, step}
 use Rattle.rules.specs.declared.Cell.{Cell}
 use Rattle.rules.specs.declared.Registers.{Registers}
 use Rattle.rules.specs.declared.Effect.{Effect}
 use Rattle.rules.specs.declared.Decision.{Decision}
 use Rattle.rules.specs.declared.Decision.the-variants.{Does, Refuses}
-use Rattle.rules.specs.declared.MachineRefusal.the-variants.{Broken, AlreadyHalted, AtEnd}
+use Rattle.rules.specs.declared.MachineRefusal.the-variants.{Broken}
 use Rattle.rules.specs.declared.Step.the-variants.{Next}
 use Rattle.rules.proofs.Zeros.{zeros-at}
 use Rattle.rules.proofs.Tests.{to-implies}
 use Rattle.rules.proofs.Splice.{length-part, length-splice}
 use Rattle.rules.proofs.Fair.{FairCell, FairCells, Sound, Fair}
-use Rattle.rules.proofs.Effects.{fair-plain, sound-facts, judged-going, fair-judged}
+use Rattle.rules.proofs.FairEffects.{fair-plain, sound-facts, judged-going, fair-judged}
 
 -- ---- a relation that holds between tags and bits at every place, and past their end
 abbrev pub Each : (ℕ → ℕ → Type 0) → List ℕ → List ℕ → Type 0
@@ -81,16 +79,16 @@ length-places a [] bs e = e
 length-places a (t ∷ ts) [] e = refl
 length-places a (t ∷ ts) (b ∷ bs) e = ap suc (length-places (suc a) ts bs (omega arith))
 
-module _ (m : Memory) (e : Effect) (ht : e .at + e .count ≤ length (m .tags)) (hb : e .at + e .count ≤ length (m .bits)) where
-  pub length-kept : length (cellsKept m e) ≡ e .count
+module _ (m : Memory) (e : Effect) (ht : e .at + e .count ≤ length (m .cells .tags)) (hb : e .at + e .count ≤ length (m .cells .bits)) where
+  pub length-kept : length (cellsKept (m .cells) e) ≡ e .count
   length-kept =
-      let lt : length (part (e .at) (e .count) (m .tags)) ≡ e .count = length-part (e .at) (e .count) (m .tags) ht in
-      let lb : length (part (e .at) (e .count) (m .bits)) ≡ e .count = length-part (e .at) (e .count) (m .bits) hb in
-      length-places (e .at) (part (e .at) (e .count) (m .tags)) (part (e .at) (e .count) (m .bits)) (lt ∙ sym lb) ∙ lb
+      let lt : length (part (e .at) (e .count) (m .cells .tags)) ≡ e .count = length-part (e .at) (e .count) (m .cells .tags) ht in
+      let lb : length (part (e .at) (e .count) (m .cells .bits)) ≡ e .count = length-part (e .at) (e .count) (m .cells .bits) hb in
+      length-places (e .at) (part (e .at) (e .count) (m .cells .tags)) (part (e .at) (e .count) (m .cells .bits)) (lt ∙ sym lb) ∙ lb
 
-  pub length-record : (r : Registers) → length (recordOf r m e) ≡ e .count + 1
+  pub length-record : (r : Registers) → length (recordOf r (m .cells) e) ≡ e .count + 1
   length-record r =
-      length-append (cellsKept m e) (stepPlace (r .pc) (r .sp) (r .fbr) (e .count) ∷ []) ∙ ap (λ (k : ℕ). k + 1) length-kept
+      length-append (cellsKept (m .cells) e) (stepPlace (r .pc) (r .sp) (r .fbr) (e .count) ∷ []) ∙ ap (λ (k : ℕ). k + 1) length-kept
 
 -- ---- the tests of a sound state, from the facts
 
@@ -124,7 +122,7 @@ facts-sound p r m s =
       le-leb _ _ (s .used),
       le-leb _ _ (s .kept),
       to-implies (eqb (r .kept) 0) (eqb (r .used) 0) (λ q. eq-eqb _ _ (s .none (eqb-true _ _ q))),
-      cells-sound (p .count) (m .tags) (m .bits) (s .cells),
+      cells-sound (p .count) (m .cells .tags) (m .cells .bits) (s .cells),
     )
 
 -- ---- the history after, with a record or without
@@ -162,10 +160,10 @@ sound-commit p r m e s f room =
       some = s .some;
       few = s .few;
       short = s .short;
-      bits = length-splice (m .bits) (e .at) (block (e .count) (e .first .bits) (e .second .bits)) (omega (arith, lb, f .fits, s .bits)) ∙ s .bits;
-      tags = length-splice (m .tags) (e .at) (block (e .count) (e .first .tag) (e .second .tag)) (omega (arith, lt, f .fits, s .tags)) ∙ s .tags;
+      bits = length-splice (m .cells .bits) (e .at) (block (e .count) (e .first .bits) (e .second .bits)) (omega (arith, lb, f .fits, s .bits)) ∙ s .bits;
+      tags = length-splice (m .cells .tags) (e .at) (block (e .count) (e .first .tag) (e .second .tag)) (omega (arith, lt, f .fits, s .tags)) ∙ s .tags;
       history =
-          history-after (r .used) (e .count + 1) (r .h) (s .used) (keeps r) (m .history) (recordOf r m e) (s .history)
+          history-after (r .used) (e .count + 1) (r .h) (s .used) (keeps r) (m .history) (recordOf r (m .cells) e) (s .history)
           (length-record m e (omega (arith, f .fits, s .tags)) (omega (arith, f .fits, s .bits)) r) room;
       sp = f .sp;
       fbr = f .fbr;
@@ -176,13 +174,13 @@ sound-commit p r m e s f room =
       none = none-after (r .kept) (r .used) (e .count + 1) (omega arith) (keeps r) (s .none);
       cells =
           each-splice (λ t b. FairCell (p .count) (record { bits = b; tag = t })) (fair-plain (p .count) 0 0 zero-le)
-          (e .at) (e .count) (m .tags) (m .bits) (block (e .count) (e .first .tag) (e .second .tag)) (block (e .count) (e .first .bits) (e .second .bits))
+          (e .at) (e .count) (m .cells .tags) (m .cells .bits) (block (e .count) (e .first .tag) (e .second .tag)) (block (e .count) (e .first .bits) (e .second .bits))
           (s .tags ∙ sym (s .bits)) lt lb (s .cells)
           (each-block (λ t b. FairCell (p .count) (record { bits = b; tag = t })) (fair-plain (p .count) 0 0 zero-le)
           (e .count) (e .first .tag) (e .first .bits) (e .second .tag) (e .second .bits) (f .first) (f .second));
     }
 
-pub sound-judged : (p : Program) (r : Registers) (m : Memory) (e : Effect) → sound p r m ≡ true → judged p r m ≡ Does e
+pub sound-judged : (p : Program) (r : Registers) (m : Memory) (e : Effect) → sound p r m ≡ true → judged p r (m .cells) ≡ Does e
     → sound p (registersOf r e) (memoryOf r m e) ≡ true
 sound-judged p r m e h q =
     facts-sound p (registersOf r e) (memoryOf r m e)
@@ -192,10 +190,10 @@ sound-judged p r m e h q =
 
 pub step-plain : (p : Program) (r : Registers) (m : Memory) → sound p r m ≡ true → step p r m ≡ plainStep p r m
 unfolding step plainStep
-step-plain p r m h = ap (λ (b : Bool). carried r m (demand b Broken (judged p r m))) h
+step-plain p r m h = ap (λ (b : Bool). carried r m (demand b Broken (judged p r (m .cells)))) h
 
 -- the state that an accepted step leaves is sound
-carried-sound : (p : Program) (r r′ : Registers) (m : Memory) (d : Decision) → sound p r m ≡ true → judged p r m ≡ d
+carried-sound : (p : Program) (r r′ : Registers) (m : Memory) (d : Decision) → sound p r m ≡ true → judged p r (m .cells) ≡ d
     → carried r m d .answer ≡ Next r′ → sound p r′ (carried r m d .memory) ≡ true
 carried-sound p r r′ m (Does e) h q a =
     let same : registersOf r e ≡ r′ = cc in
@@ -205,53 +203,4 @@ carried-sound p r r′ m (Refuses x) h q a = let z : _≡_ {A = ℕ} 0 1 = cc in
 pub sound-step : (p : Program) (r r′ : Registers) (m : Memory) → sound p r m ≡ true → plainStep p r m .answer ≡ Next r′
     → sound p r′ (plainStep p r m .memory) ≡ true
 unfolding plainStep
-sound-step p r r′ m h a = carried-sound p r r′ m (judged p r m) h refl a
-
--- ---- the decision never looks at the history
-
-values-history : (r : Registers) (b t h h′ : List ℕ) (n : ℕ) (vb vt : Cell) (a : Action)
-    → onValues r (memory b t h) n vb vt a ≡ onValues r (memory b t h′) n vb vt a
-unfolding onValues
-values-history r b t h h′ n vb vt stop = refl
-values-history r b t h h′ n vb vt pushInt = refl
-values-history r b t h h′ n vb vt pushFloat = refl
-values-history r b t h h′ n vb vt pushPa = refl
-values-history r b t h h′ n vb vt dup = refl
-values-history r b t h h′ n vb vt swap = refl
-values-history r b t h h′ n vb vt (sums f) = refl
-values-history r b t h h′ n vb vt (ints f) = refl
-values-history r b t h h′ n vb vt (divides f) = refl
-values-history r b t h h′ n vb vt (floats f) = refl
-values-history r b t h h′ n vb vt compareFloats = refl
-values-history r b t h h′ n vb vt (one f) = refl
-values-history r b t h h′ n vb vt toFloat = refl
-values-history r b t h h′ n vb vt toInt = refl
-values-history r b t h h′ n vb vt equal = refl
-values-history r b t h h′ n vb vt isNil = refl
-values-history r b t h h′ n vb vt pushSp = refl
-values-history r b t h h′ n vb vt popSp = refl
-values-history r b t h h′ n vb vt pushFbr = refl
-values-history r b t h h′ n vb vt popFbr = refl
-values-history r b t h h′ n vb vt link = refl
-values-history r b t h h′ n vb vt addSp = refl
-values-history r b t h h′ n vb vt pushInd = refl
-values-history r b t h h′ n vb vt storeInd = refl
-values-history r b t h h′ n vb vt pushOff = refl
-values-history r b t h h′ n vb vt storeOff = refl
-values-history r b t h h′ n vb vt jump = refl
-values-history r b t h h′ n vb vt jumpC = refl
-values-history r b t h h′ n vb vt jumpInd = refl
-values-history r b t h h′ n vb vt jsr = refl
-values-history r b t h h′ n vb vt jsrInd = refl
-
-pub decide-history : (r : Registers) (b t h h′ : List ℕ) (place : ℕ) → decideAt r (memory b t h) place ≡ decideAt r (memory b t h′) place
-unfolding decideAt decide
-decide-history r b t h h′ place =
-    values-history r b t h h′ (operandOf place) (cellAt (memory b t h) (record { 0 = r .sp - 2 })) (cellAt (memory b t h) (record { 0 = r .sp - 1 }))
-    (actionOf (codeOf place))
-
-pub judged-history : (p : Program) (r : Registers) (b t h h′ : List ℕ) → judged p r (memory b t h) ≡ judged p r (memory b t h′)
-unfolding judged
-judged-history p r b t h h′ =
-    ap (λ (d : Decision). demand (eqb (r .halt) 0) AlreadyHalted (demand (not (eqb (r .pc) (p .count))) AtEnd (fitted r d)))
-    (decide-history r b t h h′ (getD (p .places) (r .pc) 0))
+sound-step p r r′ m h a = carried-sound p r r′ m (judged p r (m .cells)) h refl a

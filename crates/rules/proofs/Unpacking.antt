@@ -13,12 +13,13 @@ use Rattle.rules.specs.Sizes.{maxProgram}
 use Rattle.rules.specs.Fields.{value, bitsOf}
 use Rattle.rules.specs.Instructions.{codes, kindOf}
 use Rattle.rules.specs.Table.{placeOf, within}
-use Rattle.rules.specs.Image.{Filed, countWidth, codeWidth, widthOf, extended, takeOperand, takeOne, Unpacking, places, unfit, prepend, padded, atEnd, followed, unpackFrom, unpacked, filed, unpack}
+use Rattle.rules.specs.Image.{Filed, countWidth, codeWidth, widthOf, extended, takeOperand, takeOne, Unpacking, places, unfit, prepend, padded, atEnd, followed, unpackFrom, unpacked, denied, filed, unpack}
 use Rattle.rules.specs.declared.ImageRefusal.{ImageRefusal}
 use Rattle.rules.specs.declared.ImageRefusal.the-variants.{OutputLength, EndsEarly, CountTooHigh, CodeTooHigh, OperandOutside, BadPadding}
 use Rattle.rules.specs.declared.Packed.the-variants.{Length, Denied}
 use Rattle.rules.specs.declared.Taken.{Taken}
 use Rattle.rules.specs.declared.Taken.the-variants.{Place, Unfit}
+use Rattle.rules.proofs.Outputs.{blanked-right}
 use Rattle.rules.proofs.Fields.{bitsOf-length}
 use Rattle.rules.proofs.Zeros.{drop-zeros}
 
@@ -91,9 +92,12 @@ module _ (image : List ℕ) where
         ∙ ap (λ (k : ℕ). unpackFrom k k (drop countWidth (bitsOf image))) (sym e)
 
   -- a refusal, and the zeros that go with it
-  pub unfit-filed : (k : ImageRefusal) (x : List ℕ) → unpacked image ≡ unfit k → x ≡ replicate maxProgram 0
-      → (Denied k ≡ filed (unpacked image) .answer) × (x ≡ filed (unpacked image) .output)
-  unfit-filed k x e h = (sym (ap (λ (u : Unpacking). filed u .answer) e), h ∙ sym (ap (λ (u : Unpacking). filed u .output) e))
+  pub unfit-filed : (lent : List ℕ) → length lent ≡ maxProgram → (k : ImageRefusal) (x : List ℕ) → unpacked image ≡ unfit k → x ≡ replicate maxProgram 0
+      → (Denied k ≡ filed lent (unpacked image) .answer) × (x ≡ filed lent (unpacked image) .output)
+  unfit-filed lent l k x e h = (
+    sym (ap (λ (u : Unpacking). filed lent u .answer) e),
+    h ∙ sym (ap (λ (u : Unpacking). filed lent u .output) e ∙ blanked-right maxProgram lent l),
+  )
 
 pub prepend-none : (u : Unpacking) → prepend [] u ≡ u
 prepend-none (places ps) = refl
@@ -138,28 +142,25 @@ module _ (image table : List ℕ) (n at : ℕ) (e : unpacked image ≡ prepend (
   unfolding unpackFrom atEnd
   end-unfit p = e ∙ ap (λ (b : Bool). prepend (take n table) (cond b (places []) (unfit BadPadding))) p
 
-  pub end-filed : padded (drop at (bitsOf image)) ≡ true → n ≤ maxProgram → length table ≡ maxProgram → drop n table ≡ replicate (maxProgram - n) 0
-      → (Length n ≡ filed (unpacked image) .answer) × (table ≡ filed (unpacked image) .output)
+  pub end-filed : (lent : List ℕ) → padded (drop at (bitsOf image)) ≡ true → n ≤ maxProgram → length table ≡ maxProgram → drop n table ≡ replicate (maxProgram - n) 0
+      → (Length n ≡ filed lent (unpacked image) .answer) × (table ≡ filed lent (unpacked image) .output)
   unfolding unpackFrom atEnd
-  end-filed p h l z =
+  end-filed lent p h l z =
       let f : unpacked image ≡ places (take n table) =
       e ∙ ap (λ (b : Bool). prepend (take n table) (cond b (places []) (unfit BadPadding))) p ∙ ap places (append-nil (take n table)) in
       let k : length (take n table) ≡ n = length-take-le n table (omega arith) in (
-        sym (ap (λ (u : Unpacking). filed u .answer) f ∙ ap Length k),
-        sym (ap (λ (u : Unpacking). filed u .output) f ∙ ap (λ (m : ℕ). take n table ++ replicate (maxProgram - m) 0) k
+        sym (ap (λ (u : Unpacking). filed lent u .answer) f ∙ ap Length k),
+        sym (ap (λ (u : Unpacking). filed lent u .output) f ∙ ap (λ (m : ℕ). take n table ++ replicate (maxProgram - m) 0) k
             ∙ ap (λ (r : List ℕ). take n table ++ r) (sym z) ∙ take-append-drop n table),
       )
 
 -- ---- the answers
 module _ (image table : List ℕ) where
-  abbrev refusedLength : Filed
-  refusedLength = record { answer = Denied OutputLength; output = table }
-
   -- 31
-  pub unpack-length : (length table ≡ maxProgram → ⊥) → unpack image table ≡ refusedLength
+  pub unpack-length : (length table ≡ maxProgram → ⊥) → unpack image table ≡ record { answer = Denied OutputLength; output = table }
   unfolding unpack
-  unpack-length h = ap (λ (b : Bool). cond b (filed (unpacked image)) refusedLength) (ne-eqb (length table) maxProgram h)
+  unpack-length h = rw (ne-eqb (length table) maxProgram h)
 
-  pub unpack-filed : length table ≡ maxProgram → unpack image table ≡ filed (unpacked image)
+  pub unpack-filed : length table ≡ maxProgram → unpack image table ≡ filed table (unpacked image)
   unfolding unpack
-  unpack-filed h = ap (λ (b : Bool). cond b (filed (unpacked image)) refusedLength) (eq-eqb (length table) maxProgram h)
+  unpack-filed h = ap (λ (b : Bool). cond b (filed table (unpacked image)) (denied maxProgram OutputLength table)) (eq-eqb (length table) maxProgram h)

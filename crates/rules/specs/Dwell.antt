@@ -9,7 +9,8 @@ use Rattle.rules.specs.Tags.{INT, FLOAT, has}
 use Rattle.rules.specs.Words.{signed}
 use Rattle.rules.specs.Exact.{negative, exponent, noValue, isNaN, scale, exact}
 use Rattle.rules.specs.Table.{Program}
-use Rattle.rules.specs.State.{Memory, cellAt, sound}
+use Rattle.rules.specs.Cells.{cellAt}
+use Rattle.rules.specs.State.{Memory, sound}
 use Rattle.rules.specs.declared.Cell.{Cell}
 use Rattle.rules.specs.declared.Registers.{Registers}
 use Rattle.rules.specs.declared.Dwell.{Dwell}
@@ -62,4 +63,4 @@ dwell p r m =
     readIf (sound p r m) StateBroken
     (readIf (eqb (r .halt) 1) NotHalted
     (readIf (not (eqb (r .sp) 0)) StackEmpty
-    (readCell (cellAt m (record { 0 = 0 })))))
+    (readCell (cellAt (m .cells) (record { 0 = 0 })))))

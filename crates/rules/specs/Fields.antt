@@ -1,7 +1,8 @@
 -- Fields of bits, "packed most significant bit first": in history places, and in images. A bit is the number 0 or 1. Assumes nothing.
 use Prim.Native.Nat.{ℕ, zero, suc, _+_, _*_, _/_, _%_, _^_}
 use mathlib.Core.List.{List, [], _∷_, _++_}
-use lib.ListN.{length, take, drop}
+use lib.ListN.{length, getD, take, drop}
+use Rattle.rules.specs.Lists.{part}
 
 -- the w low bits of v
 unfoldable pub field : ℕ → ℕ → List ℕ
@@ -22,3 +23,20 @@ bitsOf (b ∷ bs) = field 8 b ++ bitsOf bs
 unfoldable pub bytesOf : ℕ → List ℕ → List ℕ
 bytesOf zero l = []
 bytesOf (suc n) l = value (take 8 l) ∷ bytesOf n (drop 8 l)
+
+-- ---- a layout: the widths of fields side by side
+
+-- numbers, each in its width; past the last number there are zeros
+abbrev pub side : List ℕ → List ℕ → List ℕ
+side [] vs = []
+side (w ∷ ws) [] = field w 0 ++ side ws []
+side (w ∷ ws) (v ∷ vs) = field w v ++ side ws vs
+
+-- how many bits it has
+abbrev pub total : List ℕ → ℕ
+total [] = 0
+total (w ∷ ws) = w + total ws
+
+-- the number in field i of bits that are laid out so
+abbrev pub fieldIn : List ℕ → ℕ → List ℕ → ℕ
+fieldIn ws i bits = value (part (total (take i ws)) (getD ws i 0) bits)

@@ -3,6 +3,7 @@ use Prim.Native.Nat.{ℕ}
 use mathlib.Core.Path.{_≡_, sym, ap, _∙_}
 use mathlib.Core.List.{List, [], _∷_}
 use lib.ListN.{length}
+use Rattle.rules.specs.Outputs.{blanked}
 use Rattle.rules.specs.State.{Memory, memory}
 use Rattle.rules.specs.Reset.{Started}
 use Rattle.rules.specs.Step.{Stepped}
@@ -14,8 +15,8 @@ use Rattle.rules.specs.declared.Step.{Step}
 use Rattle.rules.specs.declared.Run.{Run}
 use Rattle.rules.specs.declared.Dwell.{Dwell}
 use Rattle.state.specs.Outcomes.{started, stepped}
-use Rattle.sam_c.specs.Calls.{Filled, Moved, filled, moved, ofLength, registerCount, listOf, registersOf, resetMoved, stepMoved, Walked, walked, runWalked, Answered, answered, dwellAnswered}
-use Rattle.sam_c.proofs.Lent.{of-length}
+use Rattle.sam_c.specs.Calls.{Filled, Moved, filled, moved, ofLength, notItsLength, untold, registerCount, listOf, registersOf, resetMoved, stepMoved, Walked, walked, runWalked, Answered, answered, dwellAnswered}
+use Rattle.sam_c.proofs.Lent.{of-length, of-another}
 
 -- a call that fills an output, whose answer is a′ and which leaves out′
 module _ {A : Type 0} (number : A → ℕ) (tells : A → List ℕ) (n : ℕ) (l : List ℕ) (h : length l ≡ n) (instead : Filled) where
@@ -23,6 +24,11 @@ module _ {A : Type 0} (number : A → ℕ) (tells : A → List ℕ) (n : ℕ) (l
       → filled k told out ≡ ofLength n l (filled (number a′) (tells a′) out′) instead
   filled-by ea eo et ek =
       (λ i. filled ((ek ∙ ap number ea) i) ((et ∙ ap tells ea) i) (eo i)) ∙ sym (of-length n l _ _ h)
+
+-- a writer that was not lent what it tells: its output is as a refusal leaves it
+pub untold-by : (n : ℕ) (l : List ℕ) → (length l ≡ n → ⊥) → (size : ℕ) (out : List ℕ) (call : Filled) {out′ : List ℕ}
+    → out′ ≡ blanked size out → filled notItsLength l out′ ≡ ofLength n l call (untold size l out)
+untold-by n l h size out call e = ap (filled notItsLength l) e ∙ sym (of-another n l _ _ h)
 
 module _ (l : List ℕ) (h : length l ≡ registerCount) (instead : Moved) where
   pub reset-called : {k : ℕ} {a : Reset} {s : Started} {registers bits tags history : List ℕ} → started a bits tags history ≡ s

@@ -1,16 +1,19 @@
 -- The calls for C: the number that each gives, what it tells, and what it leaves in every slice lent to be written, by the rules' definitions alone.
 -- Assumes nothing.
 use Prim.Native.Nat.{ℕ}
-use mathlib.Core.Bool.{cond}
+use mathlib.Core.Bool.{Bool, true, false, cond}
 use mathlib.Core.List.{List, [], _∷_}
 use lib.ListN.{length, getD}
-use lib.Dec.{eqb}
+use lib.Dec.{leb, eqb}
+use Rattle.rules.specs.Lists.{every}
+use Rattle.rules.specs.Sizes.{maxProgram, maxLimit, listingSize, imageSize}
 use Rattle.rules.specs.Table.{Program}
 use Rattle.rules.specs.State.{Memory}
+use Rattle.rules.specs.Outputs.{blanked}
 use Rattle.rules.specs.Assemble.{Assembly, assemble}
 use Rattle.rules.specs.Listing.{Written, list}
 use Rattle.rules.specs.Image.{Filed, pack, unpack}
-use Rattle.rules.specs.Reset.{Started, reset}
+use Rattle.rules.specs.Reset.{Started, sizeTests, reset}
 use Rattle.rules.specs.Step.{Stepped, step}
 use Rattle.rules.specs.Back.{back}
 use Rattle.rules.specs.Run.{Ran, run}
@@ -19,7 +22,7 @@ use Rattle.rules.specs.Numbers.{machineNumber, textNumber, numberOfAssembled, l
 use Rattle.rules.specs.declared.Position.{Position}
 use Rattle.rules.specs.declared.Registers.{Registers}
 use Rattle.rules.specs.declared.Dwell.{Dwell}
-use Rattle.rules.specs.declared.MachineRefusal.the-variants.{Broken}
+use Rattle.rules.specs.declared.MachineRefusal.the-variants.{Broken, OutsideSizes}
 use Rattle.rules.specs.declared.TextRefusal.the-variants.{WrongLength}
 
 -- ---- what a call gives and leaves
@@ -64,12 +67,18 @@ answered k told = record { number = k; told = told }
 unfoldable pub ofLength : {A : Type 0} → ℕ → List ℕ → A → A → A
 ofLength n l call instead = cond (eqb (length l) n) call instead
 
--- "31: lent output not of its exact length", which what a call tells is lent too, and "10: broken state or table"
+-- "31: lent output not of its exact length", which what a call tells is lent too: so it comes first
 abbrev pub notItsLength : ℕ
 notItsLength = textNumber WrongLength
 
+-- "10: broken state or table"
 abbrev pub broken : ℕ
 broken = machineNumber Broken
+
+-- "Run: 11, then 10." "Reset: 11 before 10.": registers of another length are a 10 in 10's place, where nothing is outside its sizes
+abbrev pub notRegisters : (sized : Bool) → ℕ
+notRegisters true = broken
+notRegisters false = machineNumber OutsideSizes
 
 -- how many registers there are
 abbrev pub registerCount : ℕ
@@ -92,7 +101,11 @@ registersOf l =
       kept = getD l 7 0;
     }
 
--- ---- the calls that fill an output
+-- ---- the calls that fill an output: "Refused writers leave an output of wrong length untouched, zero one of right length", refused for what they tell too
+
+-- a writer that was not lent what it tells, with an output of that size
+abbrev pub untold : (size : ℕ) → List ℕ → List ℕ → Filled
+untold size told output = filled notItsLength told (blanked size output)
 
 -- a length, and the position of a refusal
 abbrev pub placed : ℕ → Position → List ℕ
@@ -103,31 +116,32 @@ assembleFilled a =
     filled (numberOfAssembled (a .answer)) (placed (lengthOfAssembled (a .answer)) (positionOfAssembled (a .answer))) (a .table)
 
 abbrev pub assembleCall : List ℕ → List ℕ → List ℕ → Filled
-assembleCall source table told = ofLength 4 told (assembleFilled (assemble source table)) (filled notItsLength told table)
+assembleCall source table told = ofLength 4 told (assembleFilled (assemble source table)) (untold maxProgram told table)
 
 abbrev pub listFilled : Written → Filled
 listFilled w = filled (numberOfListed (w .answer)) (lengthOfListed (w .answer) ∷ []) (w .bytes)
 
 abbrev pub listCall : Program → List ℕ → List ℕ → Filled
-listCall p text told = ofLength 1 told (listFilled (list p text)) (filled notItsLength told text)
+listCall p text told = ofLength 1 told (listFilled (list p text)) (untold listingSize told text)
 
 abbrev pub packFilled : Filed → Filled
 packFilled f = filled (numberOfPacked (f .answer)) (lengthOfPacked (f .answer) ∷ []) (f .output)
 
 abbrev pub packCall : Program → List ℕ → List ℕ → Filled
-packCall p image told = ofLength 1 told (packFilled (pack p image)) (filled notItsLength told image)
+packCall p image told = ofLength 1 told (packFilled (pack p image)) (untold imageSize told image)
 
 abbrev pub unpackCall : List ℕ → List ℕ → List ℕ → Filled
-unpackCall image table told = ofLength 1 told (packFilled (unpack image table)) (filled notItsLength told table)
+unpackCall image table told = ofLength 1 told (packFilled (unpack image table)) (untold maxProgram told table)
 
 -- ---- the calls on a machine
 
--- "A refused reset returns zero registers."
+-- "A refused reset returns zero registers.", where there are eight
 abbrev pub resetMoved : Started → Moved
 resetMoved s = moved (numberOfReset (s .answer .begun)) (listOf (s .answer .registers)) (s .memory)
 
 abbrev pub resetCall : Program → List ℕ → Memory → Moved
-resetCall p registers m = ofLength registerCount registers (resetMoved (reset p m)) (moved broken registers m)
+resetCall p registers m =
+    ofLength registerCount registers (resetMoved (reset p m)) (moved (notRegisters (every (sizeTests m))) registers m)
 
 -- "A refused step, step-back .. changes nothing": r are the registers before
 abbrev pub stepMoved : Registers → Stepped → Moved
@@ -149,7 +163,8 @@ runWalked r =
 abbrev pub runCall : Program → ℕ → List ℕ → Memory → List ℕ → Walked
 runCall p limit registers m told =
     ofLength 1 told
-    (ofLength registerCount registers (runWalked (run p limit (registersOf registers) m)) (walked (0 ∷ []) broken registers m))
+    (ofLength registerCount registers (runWalked (run p limit (registersOf registers) m))
+    (walked (0 ∷ []) (notRegisters (leb limit maxLimit)) registers m))
     (walked told notItsLength registers m)
 
 -- ---- the call that only reads a machine

@@ -1,2 +1,3 @@
--- What each call gives and leaves.
+-- What each call gives and leaves, and cases of it worked by hand.
 pub mod Calls
+pub mod Lengths

@@ -1,5 +1,6 @@
 // The assembler for C.
 use crate::told;
+use rules::sizes;
 ghost use mathlib.Core.Path.{_≡_};
 ghost use Rattle.sam_c.specs.Calls.{filled, assembleCall};
 
@@ -9,6 +10,7 @@ pub extern "C" fn sam_assemble(source: &[u8], table: &mut [u64], told: &mut [u64
     ensures { λ r. ⌜ filled r (now (told .exit)) (now (table .exit)) ≡ assembleCall (now (source .entry)) (now (table .entry)) (now (told .entry)) ⌝ }
 {
     if told.len() != 4 {
+        lent::blank_places(table, sizes::MAX_PROGRAM);
         return told::NOT_ITS_LENGTH;
     }
     let answer = assembler::assemble(source, table);

@@ -1,5 +1,6 @@
 // The lister for C.
 use crate::told;
+use rules::sizes;
 ghost use mathlib.Core.Path.{_≡_};
 ghost use Rattle.rules.specs.Table.{program};
 ghost use Rattle.sam_c.specs.Calls.{filled, listCall};
@@ -10,6 +11,7 @@ pub extern "C" fn sam_list(table: &[u64], length: u64, text: &mut [u8], told: &m
     ensures { λ r. ⌜ filled r (now (told .exit)) (now (text .exit)) ≡ listCall (program (now (table .entry)) length) (now (text .entry)) (now (told .entry)) ⌝ }
 {
     if told.len() != 1 {
+        lent::blank_bytes(text, sizes::LISTING_SIZE);
         return told::NOT_ITS_LENGTH;
     }
     let answer = lister::list(table, length as usize, text);

@@ -1,5 +1,6 @@
 // The packer for C.
 use crate::told;
+use rules::sizes;
 ghost use mathlib.Core.Path.{_≡_};
 ghost use Rattle.rules.specs.Table.{program};
 ghost use Rattle.sam_c.specs.Calls.{filled, packCall};
@@ -10,6 +11,7 @@ pub extern "C" fn sam_pack(table: &[u64], length: u64, image: &mut [u8], told: &
     ensures { λ r. ⌜ filled r (now (told .exit)) (now (image .exit)) ≡ packCall (program (now (table .entry)) length) (now (image .entry)) (now (told .entry)) ⌝ }
 {
     if told.len() != 1 {
+        lent::blank_bytes(image, sizes::IMAGE_SIZE);
         return told::NOT_ITS_LENGTH;
     }
     let answer = image::pack(table, length as usize, image);

@@ -4,13 +4,26 @@ use rules::Step;
 ghost use mathlib.Core.Path.{_≡_};
 ghost use lib.ListN.{length};
 ghost use Rattle.rules.specs.Numbers.{registersAfter};
-ghost use Rattle.sam_c.specs.Calls.{registerCount, listOf, registersOf};
+ghost use Rattle.sam_c.specs.Calls.{notRegisters, registerCount, listOf, registersOf};
 
 // How many there are.
 pub(crate) const COUNT: usize = 8;
 
 // "broken state or table", where a call is lent registers of another length.
 pub(crate) const BROKEN: u32 = 10;
+
+// "at reset N or H outside Sizes, ..; at a run a limit above 1,000,000", which comes before it.
+const OUTSIDE_SIZES: u32 = 11;
+
+// The number of a reset or a run that is lent registers of another length, by whether all else is within its sizes.
+pub(crate) fn refused(sized: bool) -> u32
+    ensures { λ a. ⌜ a ≡ notRegisters sized ⌝ }
+{
+    if sized {
+        return BROKEN;
+    }
+    OUTSIDE_SIZES
+}
 
 // Reads them.
 pub(crate) fn read(registers: &[u64]) -> Registers

@@ -18,7 +18,7 @@ pub extern "C" fn sam_reset(
     ensures { λ a. ⌜ moved a (now (registers .exit)) (memory (now (bits .exit)) (now (tags .exit)) (now (history .exit))) ≡ resetCall (program (now (table .entry)) length) (now (registers .entry)) (memory (now (bits .entry)) (now (tags .entry)) (now (history .entry))) ⌝ }
 {
     if registers.len() != registers::COUNT {
-        return registers::BROKEN;
+        return registers::refused(state::has_start_sizes(bits.len(), tags.len(), history.len()));
     }
     let answer = state::reset(table, length as usize, bits, tags, history);
     let r = answer.registers;

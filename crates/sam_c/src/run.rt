@@ -1,6 +1,7 @@
 // The run for C.
 use crate::registers;
 use crate::told;
+use rules::sizes;
 ghost use mathlib.Core.Path.{_≡_};
 ghost use Rattle.rules.specs.Table.{program};
 ghost use Rattle.rules.specs.State.{memory};
@@ -25,7 +26,7 @@ pub extern "C" fn sam_run(
     }
     if registers.len() != registers::COUNT {
         told::tell(told, 0);
-        return registers::BROKEN;
+        return registers::refused(limit as usize <= sizes::MAX_LIMIT);
     }
     let r = registers::read(registers);
     let answer = machine::run::run(

@@ -7,13 +7,13 @@ use lib.ListN.{length, getD, drop, drop-of-length-le}
 use borrow.Author.Tests.{eqb-true}
 use Rattle.rules.specs.Lists.{every}
 use Rattle.rules.specs.Table.{Program, soundTable}
-use Rattle.rules.specs.State.{Memory, soundCell, soundCells, sound}
+use Rattle.rules.specs.State.{Memory, soundCell, soundCells, keptSizes, registersWithin, sound}
 use Rattle.rules.specs.declared.Registers.{Registers}
 use Rattle.rules.proofs.Tests.{every-at, drop-next}
 use Rattle.rules.proofs.Fair.{Sound}
-use Rattle.rules.proofs.Effects.{sound-facts}
+use Rattle.rules.proofs.FairEffects.{sound-facts}
 use Rattle.rules.proofs.Tests.{and-then}
-use Rattle.state.specs.Parts.{keptSizes, registersWithin, Held}
+use Rattle.state.specs.Parts.{Held}
 
 -- ---- the loop over the cells: one cell more, and no cell left
 
@@ -31,8 +31,8 @@ cells-done count ts bs i h = ap (λ (l : List ℕ). soundCells count l (drop i b
 module _ (p : Program) (r : Registers) (m : Memory) where
   pub sound-parts : sound p r m
       ≡ (soundTable p
-      && (every (keptSizes r (length (m .bits)) (length (m .tags)) (length (m .history)))
-      && (every (registersWithin (p .count) r) && soundCells (p .count) (m .tags) (m .bits))))
+      && (every (keptSizes r (length (m .cells .bits)) (length (m .cells .tags)) (length (m .history)))
+      && (every (registersWithin (p .count) r) && soundCells (p .count) (m .cells .tags) (m .cells .bits))))
   unfolding sound
   sound-parts = simp (and-true, and-assoc)
 
@@ -44,20 +44,20 @@ module _ (p : Program) (r : Registers) (m : Memory) where
 
   -- the early returns of the judgement, and its end
   module _ (made : soundTable p ≡ true) where
-    pub sound-sizes : every (keptSizes r (length (m .bits)) (length (m .tags)) (length (m .history))) ≡ false → sound p r m ≡ false
+    pub sound-sizes : every (keptSizes r (length (m .cells .bits)) (length (m .cells .tags)) (length (m .history))) ≡ false → sound p r m ≡ false
     sound-sizes h = sound-parts ∙ and-then made (rw h refl)
 
-    module _ (sized : every (keptSizes r (length (m .bits)) (length (m .tags)) (length (m .history))) ≡ true) where
+    module _ (sized : every (keptSizes r (length (m .cells .bits)) (length (m .cells .tags)) (length (m .history))) ≡ true) where
       pub sound-registers : every (registersWithin (p .count) r) ≡ false → sound p r m ≡ false
       sound-registers h = sound-parts ∙ and-then made (and-then sized (rw h refl))
 
-      pub sound-cells : every (registersWithin (p .count) r) ≡ true → sound p r m ≡ soundCells (p .count) (m .tags) (m .bits)
+      pub sound-cells : every (registersWithin (p .count) r) ≡ true → sound p r m ≡ soundCells (p .count) (m .cells .tags) (m .cells .bits)
       sound-cells h = sound-parts ∙ and-then made (and-then sized (and-then h refl))
 
-      pub cells-equal : length (m .tags) ≡ length (m .bits)
+      pub cells-equal : length (m .cells .tags) ≡ length (m .cells .bits)
       cells-equal =
-          eqb-true _ _ (every-at (keptSizes r (length (m .bits)) (length (m .tags)) (length (m .history))) 4 sized)
-          ∙ sym (eqb-true _ _ (every-at (keptSizes r (length (m .bits)) (length (m .tags)) (length (m .history))) 3 sized))
+          eqb-true _ _ (every-at (keptSizes r (length (m .cells .bits)) (length (m .cells .tags)) (length (m .history))) 4 sized)
+          ∙ sym (eqb-true _ _ (every-at (keptSizes r (length (m .cells .bits)) (length (m .cells .tags)) (length (m .history))) 3 sized))
 
   pub sound-table : soundTable p ≡ false → sound p r m ≡ false
   sound-table h = sound-parts ∙ rw h refl

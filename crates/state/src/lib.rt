@@ -9,9 +9,8 @@ ghost use mathlib.Core.Path.{_≡_};
 ghost use lib.ListN.{length, replicate};
 ghost use Rattle.rules.specs.Lists.{every};
 ghost use Rattle.rules.specs.Table.{program};
-ghost use Rattle.rules.specs.State.{memory, soundCell, soundCells, sound};
-ghost use Rattle.rules.specs.Reset.{cleared, reset};
-ghost use Rattle.state.specs.Parts.{keptSizes, keptWithin, registersWithin, startSizes};
+ghost use Rattle.rules.specs.State.{memory, soundCell, soundCells, keptSizes, keptWithin, registersWithin, sound};
+ghost use Rattle.rules.specs.Reset.{cleared, startSizes, reset};
 ghost use Rattle.state.specs.Outcomes.{started};
 
 // Whether N and H are within "Sizes", and the lent slices, of these lengths, are of them.
@@ -128,7 +127,7 @@ pub fn is_sound(
 }
 
 // Whether a reset takes cells, tags and history of these lengths: where not, it answers 11.
-fn has_start_sizes(bits: usize, tags: usize, history: usize) -> bool
+pub fn has_start_sizes(bits: usize, tags: usize, history: usize) -> bool
     ensures { λ a. ⌜ a ≡ every (startSizes bits tags history) ⌝ }
 {
     if bits < 1 {
@@ -141,17 +140,6 @@ fn has_start_sizes(bits: usize, tags: usize, history: usize) -> bool
         return false;
     }
     tags == bits
-}
-
-// Sets every place to 0.
-pub fn clear(places: &mut [u64])
-    ensures { λ _. ⌜ now (places .exit) ≡ replicate (length (now (places .entry))) 0 ⌝ }
-{
-    let mut place = 0;
-    while place < places.len() {
-        places[place] = 0;
-        place += 1;
-    }
 }
 
 // Sets every cell to INT 0.
@@ -211,7 +199,7 @@ pub fn reset(
         };
     }
     clear_cells(bits, tags);
-    clear(history);
+    lent::clear_places(history);
     Reset {
         begun: Begun::Ready,
         registers: zero_registers(n, h),

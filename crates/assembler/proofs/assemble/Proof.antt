@@ -56,7 +56,7 @@ returns-3 c =
     let k = c .before .before .before .before .before .before .before .before .before .before .before .before .before .if1 .left in
     let l : length (g .last .1 .0) ≡ maxProgram = g .kept .1 .0 ∙ k in
     let h = filled.answer-all (a .source .now) (a .table .now) k (c .before .before .before .before .before .before .before .before .before .before .before .before .if2 .left) in
-    let u = filled.used-all (a .source .now) (g .last .1 .0) (translated (a .source .now)) (g .result) l (g .ensures) in
+    let u = filled.used-all (a .source .now) (a .table .now) (g .last .1 .0) (translated (a .source .now)) (g .result) k l (g .ensures) in
     let e = c .before .before .before .clear-from2 .ensures in (
       c .answer .ensures ∙ u .0 ∙ sym (ap (λ (x : Assembly). x .answer) h),
       (rw (l, c .before .before .before .before .used .ensures) at e) ∙ u .1 ∙ sym (ap (λ (x : Assembly). x .table) h),

@@ -95,20 +95,20 @@ restore-requires c κs =
           (formed-below (a .r .n) (a .count) 0 cells (sym (c .before .before .before .before .before .are-formed-cells .ensures) ∙ not-false _ (c .before .before .before .before .if3 .left)) k h),
     )
 
-mul-clear : tie.Need-mul-clear
-mul-clear c = search needs
+mul-clear-places : tie.Need-mul-clear-places
+mul-clear-places c = search needs
 
-sub-clear : tie.Need-sub-clear
-sub-clear c = search needs
+sub-clear-places : tie.Need-sub-clear-places
+sub-clear-places c = search needs
 
-part-clear-start : tie.Need-part-clear-start
-part-clear-start c = search needs
+part-clear-places-start : tie.Need-part-clear-places-start
+part-clear-places-start c = search needs
 
-part-clear-end : tie.Need-part-clear-end
-part-clear-end c = search needs
+part-clear-places-end : tie.Need-part-clear-places-end
+part-clear-places-end c = search needs
 
-clear-requires : tie.Need-clear-requires
-clear-requires c κs = search needs
+clear-places-requires : tie.Need-clear-places-requires
+clear-places-requires c κs = search needs
 
 step-pc-requires : tie.Need-step-pc-requires
 step-pc-requires c κs = search needs
@@ -148,7 +148,7 @@ returns-4 c =
     (c .before .before .before .before .before .before .before .before .before .before .before .before .restore .ensures .0) (c .before .before .before .before .before .before .before .before .before .before .before .before .restore .ensures .1)
     (zeroed (a .r .used) (x .result) (a .history .now) _
     (within-used (program [] (a .count)) (a .r) (memory (a .bits .now) (a .tags .now) (a .history .now)) some (x .result) (x .ensures) ok)
-    (omega (arith, held .places, held .used)) (c .before .before .before .before .before .before .clear .ensures))
+    (omega (arith, held .places, held .used)) (c .before .before .before .before .before .before .clear-places .ensures))
 
 pub plain-back-spec : {M : Type 1} → statement M
 plain-back-spec =
@@ -174,11 +174,11 @@ plain-back-spec =
     part-restore-start
     part-restore-end
     restore-requires
-    mul-clear
-    sub-clear
-    part-clear-start
-    part-clear-end
-    clear-requires
+    mul-clear-places
+    sub-clear-places
+    part-clear-places-start
+    part-clear-places-end
+    clear-places-requires
     step-pc-requires
     step-sp-requires
     step-fbr-requires

@@ -23,8 +23,8 @@ returns c =
     let e = list-refused (program (a .table .now) (a .length)) (a .text .now) (c .if1 .taken) in
     (sym (ap (λ (w : Written). w .answer) e), sym (ap (λ (w : Written). w .bytes) e))
 
-clear-requires : tie.Need-clear-requires
-clear-requires c κs = search needs
+clear-bytes-requires : tie.Need-clear-bytes-requires
+clear-bytes-requires c κs = search needs
 
 is-sound-requires : tie.Need-is-sound-requires
 is-sound-requires c κs = search needs
@@ -39,7 +39,7 @@ returns-2 c =
     let s : soundTable (program (a .table .now) (a .length)) ≡ false = sym (c .before .is-sound .ensures) ∙ not-true (c .before .is-sound .result) (c .if2 .taken) in
     let e = list-broken (program (a .table .now) (a .length)) (a .text .now) n s in (
       sym (ap (λ (w : Written). w .answer) e),
-      c .before .before .before .before .clear .ensures ∙ ap (λ (k : ℕ). replicate {A = ℕ} k 0) n ∙ sym (ap (λ (w : Written). w .bytes) e),
+      c .before .before .before .before .clear-bytes .ensures ∙ ap (λ (k : ℕ). replicate {A = ℕ} k 0) n ∙ sym (ap (λ (w : Written). w .bytes) e),
     )
 
 put-lines-requires : tie.Need-put-lines-requires
@@ -58,7 +58,7 @@ returns-3 c =
     let s : soundTable p ≡ true = sym (c .before .before .before .before .before .is-sound .ensures) ∙ not-false (c .before .before .before .before .before .is-sound .result) (c .before .before .before .before .if2 .left) in
     let e = list-told p (a .text .now) n s in
     let q = c .before .before .put-lines .ensures in
-    let z : Put (replicate (length (a .text .now)) 0) (c .before .before .put-lines .last .1 .1 .0) 0 bs (c .before .before .put-lines .result) = rw (c .before .before .before .before .before .before .before .before .clear .ensures) at q in
+    let z : Put (replicate (length (a .text .now)) 0) (c .before .before .put-lines .last .1 .1 .0) 0 bs (c .before .before .put-lines .result) = rw (c .before .before .before .before .before .before .before .before .clear-bytes .ensures) at q in
     let w = put-zeros {n = length (a .text .now)} (omega (arith, listing-fits p s, n)) z in (
       ap Told (q .length-told) ∙ sym (ap (λ (w : Written). w .answer) e),
       (rw n at w) ∙ sym (ap (λ (w : Written). w .bytes) e),
@@ -69,7 +69,7 @@ list-spec =
     tie.close
     (tie.spec
     returns
-    clear-requires
+    clear-bytes-requires
     is-sound-requires
     same-length
     returns-2

@@ -1,11 +1,13 @@
--- `places::step_sp` meets its contract, by the law `stepSp-is`. Assumes nothing.
-use mathlib.Core.Path.{sym}
-use Rattle.rules.proofs.Places.{stepSp-is}
+-- `places::step_sp` meets its contract, by the law `field-is`. Assumes nothing.
+use mathlib.Core.Path.{refl, sym}
+use Rattle.rules.specs.Places.{stepLayout, stepSp}
+use Rattle.rules.proofs.Places.{field-is}
 use Rattle.places.proofs.step_sp.Statement.{statement}
 use Rattle.places.proofs.step_sp.Tie as tie
 
 returns : tie.Need-returns
-returns c = sym (stepSp-is (c .args .place))
+unfolding stepSp
+returns c = sym (field-is stepLayout 2 (c .args .place) refl)
 
 pub step-sp-spec : {M : Type 1} → statement M
 step-sp-spec = tie.close (tie.spec returns)

@@ -4,7 +4,7 @@ use mathlib.Core.Bool.{and-true}
 use borrow.Author.Tests.{le-leb, lt-leb, eq-eqb, ne-eqb}
 use Rattle.rules.proofs.Tests.{every-false}
 use Rattle.rules.proofs.Tests.{and-then}
-use Rattle.state.specs.Parts.{keptSizes}
+use Rattle.rules.specs.State.{keptSizes}
 use Rattle.state.proofs.has_kept_sizes.Statement.{statement}
 use Rattle.state.proofs.has_kept_sizes.Tie as tie
 

@@ -4,7 +4,7 @@ use borrow.Author.Needs.{needs}
 use borrow.Author.Tests.{lt-ltb, le-ltb, le-leb, lt-leb}
 use Rattle.rules.proofs.Tests.{every-false}
 use Rattle.rules.proofs.Tests.{and-then}
-use Rattle.state.specs.Parts.{registersWithin}
+use Rattle.rules.specs.State.{registersWithin}
 use Rattle.state.proofs.has_registers_within.Statement.{statement}
 use Rattle.state.proofs.has_registers_within.Tie as tie
 

@@ -4,7 +4,7 @@ use mathlib.Core.Bool.{and-true}
 use borrow.Author.Tests.{le-leb, lt-leb}
 use Rattle.rules.proofs.Tests.{every-false}
 use Rattle.rules.proofs.Tests.{and-then}
-use Rattle.state.specs.Parts.{startSizes}
+use Rattle.rules.specs.Reset.{startSizes}
 use Rattle.state.proofs.has_start_sizes.Statement.{statement}
 use Rattle.state.proofs.has_start_sizes.Tie as tie
 

@@ -38,8 +38,8 @@ clear-cells-requires c κs =
     let a = c .before .before .before .before .before .before .before .before .before .before .args in
     cells-equal (program (a .table .now) (a .length)) (memory (a .bits .now) (a .tags .now) (a .history .now)) (sym (c .before .before .before .before .before .has-start-sizes .ensures) ∙ not-false _ (c .before .before .before .before .if1 .left))
 
-clear-requires : tie.Need-clear-requires
-clear-requires c κs = search needs
+clear-places-requires : tie.Need-clear-places-requires
+clear-places-requires c κs = search needs
 
 zero-registers-requires-3 : tie.Need-zero-registers-requires-3
 zero-registers-requires-3 c κs = search needs
@@ -58,7 +58,7 @@ returns-3 c =
     let a = c .before .before .before .before .before .before .before .before .before .before .before .before .before .before .before .before .before .before .before .before .args in
     reset-begun (program (a .table .now) (a .length)) (memory (a .bits .now) (a .tags .now) (a .history .now)) (sym (c .before .before .before .before .before .before .before .before .before .before .before .before .before .before .before .has-start-sizes .ensures) ∙ not-false _ (c .before .before .before .before .before .before .before .before .before .before .before .before .before .before .if1 .left)) _ _ _ _
     (sym (c .before .before .before .before .before .before .before .before .before .before .before .before .before .is-sound .ensures) ∙ not-false _ (c .before .before .before .before .before .before .before .before .before .before .before .before .if2 .left)) (c .zero-registers3 .ensures)
-    (c .before .before .before .before .before .before .before .before .before .clear-cells .ensures .0) (c .before .before .before .before .before .before .before .before .before .clear-cells .ensures .1) (c .before .before .before .clear .ensures)
+    (c .before .before .before .before .before .before .before .before .before .clear-cells .ensures .0) (c .before .before .before .before .before .before .before .before .before .clear-cells .ensures .1) (c .before .before .before .clear-places .ensures)
 
 pub reset-spec : {M : Type 1} → statement M
 reset-spec =
@@ -71,7 +71,7 @@ reset-spec =
     zero-registers-requires-2
     returns-2
     clear-cells-requires
-    clear-requires
+    clear-places-requires
     zero-registers-requires-3
     same-length
     same-length-2

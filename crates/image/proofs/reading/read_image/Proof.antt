@@ -40,7 +40,7 @@ returns : tie.Need-returns Inv-loop μ-loop
 returns c =
     let a = c .before .before .before .before .before .before .before .before .args in
     let h : length (now (a .image)) * 8 < 11 = leb-false _ _ (sym (c .before .has-bits .ensures) ∙ not-true _ (c .if1 .taken)) in
-    unfit-filed (now (a .image)) EndsEarly _ (unpacked-short (now (a .image)) (omega (arith, bitsOf-length (now (a .image)))))
+    unfit-filed (now (a .image)) (now (a .table)) (c .before .before .before .before .before .before .before .before .pre) EndsEarly _ (unpacked-short (now (a .image)) (omega (arith, bitsOf-length (now (a .image)))))
     (c .before .before .before .before .clear-places .ensures ∙ ap (λ (k : ℕ). replicate k 0) (c .before .before .before .before .before .before .before .before .pre))
 
 get-requires : tie.Need-get-requires Inv-loop μ-loop
@@ -59,7 +59,7 @@ returns-2 : tie.Need-returns-2 Inv-loop μ-loop
 returns-2 c =
     let a = c .before .before .before .before .before .before .before .before .before .before .args in
     let h : 11 ≤ length (now (a .image)) * 8 = leb-true _ _ (sym (c .before .before .before .has-bits .ensures) ∙ not-false _ (c .before .before .if1 .left)) in
-    unfit-filed (now (a .image)) CountTooHigh _
+    unfit-filed (now (a .image)) (now (a .table)) (c .before .before .before .before .before .before .before .before .before .before .pre) CountTooHigh _
     (unpacked-count (now (a .image)) (c .before .get .result) (omega (arith, bitsOf-length (now (a .image)))) (c .before .get .ensures .0) (c .if2 .taken))
     (c .before .before .before .before .before .before .clear-places .ensures ∙ ap (λ (k : ℕ). replicate k 0) (c .before .before .before .before .before .before .before .before .before .before .pre))
 
@@ -132,7 +132,7 @@ returns-3 c =
     let t = c .before .before .before .before .before .before .before .before .before .loop in
     let k = c .before .before .before .before .before .refusal .given .0 .0 in
     let r = sym (c .before .before .before .before .before .before .before .take-instruction .ensures .0) ∙ c .before .before .before .before .before .refusal .given .1 in
-    unfit-filed (now (a .image)) k _
+    unfit-filed (now (a .image)) (now (a .table)) (c .before .before .before .before .before .before .before .before .before .before .before .before .before .before .before .before .before .before .before .before .pre) k _
     (turn-unfit (unpacked (now (a .image))) (c .before .before .before .before .before .before .before .before .before .before .before .get .result) (t .i) (t .at) (t .table) (bitsOf (now (a .image))) (c .before .before .before .before .before .before .before .before .loop-test .taken) (t .inv .5) k r)
     (c .before .before .clear-places2 .ensures ∙ ap (λ (m : ℕ). replicate m 0) (t .inv .2))
 
@@ -150,7 +150,7 @@ returns-4 c =
     let ei : t .i ≡ n = omega arith in
     let ez : n - t .i ≡ 0 = omega arith in
     let e = t .inv .5 ∙ ap₂ (λ (x y : ℕ). prepend (take x (t .table)) (unpackFrom n y (drop (t .at) (bitsOf (now (a .image)))))) ei ez in
-    end-filed (now (a .image)) (t .table) n (t .at) e (sym (c .before .is-padded .ensures) ∙ c .if3 .taken) (t .inv .1) (t .inv .2)
+    end-filed (now (a .image)) (t .table) n (t .at) e (now (a .table)) (sym (c .before .is-padded .ensures) ∙ c .if3 .taken) (t .inv .1) (t .inv .2)
     (subst (λ (x : ℕ). drop x (t .table) ≡ replicate (maxProgram - x) 0) ei (t .inv .6))
 
 clear-places-requires-3 : tie.Need-clear-places-requires-3 Inv-loop μ-loop
@@ -167,7 +167,7 @@ returns-5 c =
     let ei : t .i ≡ n = omega arith in
     let ez : n - t .i ≡ 0 = omega arith in
     let e = t .inv .5 ∙ ap₂ (λ (x y : ℕ). prepend (take x (t .table)) (unpackFrom n y (drop (t .at) (bitsOf (now (a .image)))))) ei ez in
-    unfit-filed (now (a .image)) BadPadding _ (end-unfit (now (a .image)) (t .table) n (t .at) e (sym (c .before .before .before .before .before .is-padded .ensures) ∙ c .before .before .before .before .if3 .left))
+    unfit-filed (now (a .image)) (now (a .table)) (c .before .before .before .before .before .before .before .before .before .before .before .before .before .before .before .before .before .before .pre) BadPadding _ (end-unfit (now (a .image)) (t .table) n (t .at) e (sym (c .before .before .before .before .before .is-padded .ensures) ∙ c .before .before .before .before .if3 .left))
     (c .before .before .clear-places3 .ensures ∙ ap (λ (m : ℕ). replicate m 0) (t .inv .2))
 
 pub read-image-spec : {M : Type 1} → statement M

@@ -1,6 +1,7 @@
 -- `machine::carry::carry` meets its contract, shape by shape. Assumes nothing.
 use mathlib.Core.Path.{sym, ap, _∙_}
-use Rattle.rules.specs.State.{memory, cellAt}
+use Rattle.rules.specs.Cells.{cells, cellAt}
+use Rattle.rules.specs.State.{memory}
 use Rattle.rules.specs.Step.{fitted, carried}
 use Rattle.rules.specs.declared.Decision.{Decision}
 use Rattle.rules.specs.declared.MachineRefusal.the-variants as refusal
@@ -17,7 +18,7 @@ enum-told c = search needs
 write-requires : tie.Need-write-requires
 write-requires c κs =
     let a = c .before .before .before .before .before .before .before .before .args in
-    c .before .before .before .before .before .before .before .before .pre (writes (a .r) (a .d)) (planned-as (a .r) (memory (a .bits .now) (a .tags .now) (a .history .now)) (a .d) Write (c .before .before .before .enum-told .given .1))
+    c .before .before .before .before .before .before .before .before .pre (writes (a .r) (a .d)) (planned-as (a .r) (cells (a .bits .now) (a .tags .now)) (a .d) Write (c .before .before .before .enum-told .given .1))
 
 enum-told-2 : tie.Need-enum-told-2
 enum-told-2 c = search needs
@@ -25,7 +26,7 @@ enum-told-2 c = search needs
 jump-requires : tie.Need-jump-requires
 jump-requires c κs =
     let a = c .before .before .before .before .before .before .args in
-    let o = c .before .before .before .before .before .before .pre (jumps (a .r) (a .d .pc) (a .d .sp)) (planned-as (a .r) (memory (a .bits .now) (a .tags .now) (a .history .now)) (a .d) Jump (c .before .enum-told2 .given .1)) in
+    let o = c .before .before .before .before .before .before .pre (jumps (a .r) (a .d .pc) (a .d .sp)) (planned-as (a .r) (cells (a .bits .now) (a .tags .now)) (a .d) Jump (c .before .enum-told2 .given .1)) in
     (o .used, o .places, o .kept)
 
 enum-told-3 : tie.Need-enum-told-3
@@ -35,7 +36,7 @@ carry-rare-requires : tie.Need-carry-rare-requires
 carry-rare-requires c κs =
     let a = c .before .before .before .before .before .before .before .before .args in
     let m = memory (a .bits .now) (a .tags .now) (a .history .now) in
-    c .before .before .before .before .before .before .before .before .pre (rarely (a .d .rare) (a .r) (cellAt m (record { 0 = a .d .at })) (a .d)) (planned-as (a .r) m (a .d) Rare (c .before .before .before .enum-told3 .given .1))
+    c .before .before .before .before .before .before .before .before .pre (rarely (a .d .rare) (a .r) (cellAt (m .cells) (record { 0 = a .d .at })) (a .d)) (planned-as (a .r) (m .cells) (a .d) Rare (c .before .before .before .enum-told3 .given .1))
 
 enum-told-4 : tie.Need-enum-told-4
 enum-told-4 c = search needs
@@ -74,7 +75,7 @@ returns : tie.Need-returns
 returns c =
     let a = c .before .before .before .before .before .before .before .before .before .before .before .before .before .before .before .args in
     let m = memory (a .bits .now) (a .tags .now) (a .history .now) in
-    c .before .before .before .before .before .before .write .ensures ∙ ap (λ (z : Decision). carried (a .r) m (fitted (a .r) z)) (sym (planned-as (a .r) m (a .d) Write (c .before .before .before .before .before .before .before .before .before .before .enum-told .given .1)))
+    c .before .before .before .before .before .before .write .ensures ∙ ap (λ (z : Decision). carried (a .r) m (fitted (a .r) z)) (sym (planned-as (a .r) (m .cells) (a .d) Write (c .before .before .before .before .before .before .before .before .before .before .enum-told .given .1)))
 
 same-length-4 : tie.Need-same-length-4
 same-length-4 c = search needs
@@ -83,7 +84,7 @@ returns-2 : tie.Need-returns-2
 returns-2 c =
     let a = c .before .before .before .before .before .before .before .before .before .args in
     let m = memory (a .bits .now) (a .tags .now) (a .history .now) in
-    c .before .before .jump .ensures (a .bits .now) (a .tags .now) ∙ ap (λ (z : Decision). carried (a .r) m (fitted (a .r) z)) (sym (planned-as (a .r) m (a .d) Jump (c .before .before .before .before .enum-told2 .given .1)))
+    c .before .before .jump .ensures (a .bits .now) (a .tags .now) ∙ ap (λ (z : Decision). carried (a .r) m (fitted (a .r) z)) (sym (planned-as (a .r) (m .cells) (a .d) Jump (c .before .before .before .before .enum-told2 .given .1)))
 
 same-length-5 : tie.Need-same-length-5
 same-length-5 c = search needs
@@ -98,31 +99,31 @@ returns-3 : tie.Need-returns-3
 returns-3 c =
     let a = c .before .before .before .before .before .before .before .before .before .before .before .before .before .before .before .args in
     let m = memory (a .bits .now) (a .tags .now) (a .history .now) in
-    c .before .before .before .before .before .before .carry-rare .ensures ∙ ap (λ (z : Decision). carried (a .r) m (fitted (a .r) z)) (sym (planned-as (a .r) m (a .d) Rare (c .before .before .before .before .before .before .before .before .before .before .enum-told3 .given .1)))
+    c .before .before .before .before .before .before .carry-rare .ensures ∙ ap (λ (z : Decision). carried (a .r) m (fitted (a .r) z)) (sym (planned-as (a .r) (m .cells) (a .d) Rare (c .before .before .before .before .before .before .before .before .before .before .enum-told3 .given .1)))
 
 returns-4 : tie.Need-returns-4
 returns-4 c =
     let a = c .before .before .before .before .before .before .args in
     let m = memory (a .bits .now) (a .tags .now) (a .history .now) in
-    carried-refused (a .r) m _ refusal.TooFewValues _ (c .refused .ensures) (planned-as (a .r) m (a .d) TooFewValues (c .before .enum-told4 .given .1))
+    carried-refused (a .r) m _ refusal.TooFewValues _ (c .refused .ensures) (planned-as (a .r) (m .cells) (a .d) TooFewValues (c .before .enum-told4 .given .1))
 
 returns-5 : tie.Need-returns-5
 returns-5 c =
     let a = c .before .before .before .before .before .before .args in
     let m = memory (a .bits .now) (a .tags .now) (a .history .now) in
-    carried-refused (a .r) m _ refusal.WrongTag _ (c .refused2 .ensures) (planned-as (a .r) m (a .d) WrongTag (c .before .enum-told5 .given .1))
+    carried-refused (a .r) m _ refusal.WrongTag _ (c .refused2 .ensures) (planned-as (a .r) (m .cells) (a .d) WrongTag (c .before .enum-told5 .given .1))
 
 returns-6 : tie.Need-returns-6
 returns-6 c =
     let a = c .before .before .before .before .before .before .args in
     let m = memory (a .bits .now) (a .tags .now) (a .history .now) in
-    carried-refused (a .r) m _ refusal.NoResult _ (c .refused3 .ensures) (planned-as (a .r) m (a .d) NoResult (c .before .enum-told6 .given .1))
+    carried-refused (a .r) m _ refusal.NoResult _ (c .refused3 .ensures) (planned-as (a .r) (m .cells) (a .d) NoResult (c .before .enum-told6 .given .1))
 
 returns-7 : tie.Need-returns-7
 returns-7 c =
     let a = c .before .before .before .before .before .before .args in
     let m = memory (a .bits .now) (a .tags .now) (a .history .now) in
-    carried-refused (a .r) m _ refusal.BadAddress _ (c .refused4 .ensures) (planned-as (a .r) m (a .d) BadAddress (c .before .enum-told7 .given .1))
+    carried-refused (a .r) m _ refusal.BadAddress _ (c .refused4 .ensures) (planned-as (a .r) (m .cells) (a .d) BadAddress (c .before .enum-told7 .given .1))
 
 pub carry-spec : {M : Type 1} → statement M
 carry-spec =

@@ -3,7 +3,8 @@ use Prim.Native.Nat.{_<_}
 use mathlib.Core.Path.{_≡_, sym, ap, subst, _∙_}
 use native.Mathlib.Omega.{arith}
 use borrow.Author.Tests.{leb-true, leb-false, not-true, not-false}
-use Rattle.rules.specs.State.{memory, cellAt}
+use Rattle.rules.specs.Cells.{cellAt}
+use Rattle.rules.specs.State.{memory}
 use Rattle.rules.specs.Commit.{roomFor}
 use Rattle.machine.specs.Fits.{Fits}
 use Rattle.machine.specs.Plan.{rarely}
@@ -24,16 +25,16 @@ returns : tie.Need-returns
 returns c =
     let a = c .before .before .before .before .before .before .args in
     let m = memory (a .bits .now) (a .tags .now) (a .history .now) in
-    let e = (rarely (a .d .rare) (a .r) (cellAt m (record { 0 = a .d .at })) (a .d)) in
-    let s : e .sp ≡ a .d .sp = rarely-sp (a .d .rare) (a .r) (cellAt m (record { 0 = a .d .at })) (a .d) in
+    let e = (rarely (a .d .rare) (a .r) (cellAt (m .cells) (record { 0 = a .d .at })) (a .d)) in
+    let s : e .sp ≡ a .d .sp = rarely-sp (a .d .rare) (a .r) (cellAt (m .cells) (record { 0 = a .d .at })) (a .d) in
     carried-high (a .r) m _ e (c .refused .ensures) (let h = (leb-true (a .r .n) (a .d .sp) (sym (c .before .before .is-high .ensures) ∙ c .before .if1 .taken)) in omega (arith, s, h))
 
 rare-effect-requires : tie.Need-rare-effect-requires
 rare-effect-requires c κs =
     let a = c .before .before .before .before .before .before .before .args in
     let m = memory (a .bits .now) (a .tags .now) (a .history .now) in
-    let e = (rarely (a .d .rare) (a .r) (cellAt m (record { 0 = a .d .at })) (a .d)) in
-    let s : e .sp ≡ a .d .sp = rarely-sp (a .d .rare) (a .r) (cellAt m (record { 0 = a .d .at })) (a .d) in
+    let e = (rarely (a .d .rare) (a .r) (cellAt (m .cells) (record { 0 = a .d .at })) (a .d)) in
+    let s : e .sp ≡ a .d .sp = rarely-sp (a .d .rare) (a .r) (cellAt (m .cells) (record { 0 = a .d .at })) (a .d) in
     let low : e .sp < a .r .n = let h = (leb-false (a .r .n) (a .d .sp) (sym (c .before .before .before .is-high .ensures) ∙ c .before .before .if1 .left)) in omega (arith, s, h) in
     let o = c .before .before .before .before .before .before .before .pre in
     let far = o .block low in
@@ -55,8 +56,8 @@ returns-2 : tie.Need-returns-2
 returns-2 c =
     let a = c .before .before .before .before .before .before .before .before .before .before .before .args in
     let m = memory (a .bits .now) (a .tags .now) (a .history .now) in
-    let e = (rarely (a .d .rare) (a .r) (cellAt m (record { 0 = a .d .at })) (a .d)) in
-    let s : e .sp ≡ a .d .sp = rarely-sp (a .d .rare) (a .r) (cellAt m (record { 0 = a .d .at })) (a .d) in
+    let e = (rarely (a .d .rare) (a .r) (cellAt (m .cells) (record { 0 = a .d .at })) (a .d)) in
+    let s : e .sp ≡ a .d .sp = rarely-sp (a .d .rare) (a .r) (cellAt (m .cells) (record { 0 = a .d .at })) (a .d) in
     let low : e .sp < a .r .n = let h = (leb-false (a .r .n) (a .d .sp) (sym (c .before .before .before .before .before .before .before .is-high .ensures) ∙ c .before .before .before .before .before .before .if1 .left)) in omega (arith, s, h) in
     carried-full (a .r) m _ e (c .refused2 .ensures) low (ap (roomFor (a .r)) (sym (c .before .before .before .rare-effect .ensures)) ∙ sym (c .before .before .has-room .ensures) ∙ not-true _ (c .before .if2 .taken))
 
@@ -64,8 +65,8 @@ commit-requires : tie.Need-commit-requires
 commit-requires c κs =
     let a = c .before .before .before .before .before .before .before .before .before .before .before .before .before .args in
     let m = memory (a .bits .now) (a .tags .now) (a .history .now) in
-    let e = (rarely (a .d .rare) (a .r) (cellAt m (record { 0 = a .d .at })) (a .d)) in
-    let s : e .sp ≡ a .d .sp = rarely-sp (a .d .rare) (a .r) (cellAt m (record { 0 = a .d .at })) (a .d) in
+    let e = (rarely (a .d .rare) (a .r) (cellAt (m .cells) (record { 0 = a .d .at })) (a .d)) in
+    let s : e .sp ≡ a .d .sp = rarely-sp (a .d .rare) (a .r) (cellAt (m .cells) (record { 0 = a .d .at })) (a .d) in
     let low : e .sp < a .r .n = let h = (leb-false (a .r .n) (a .d .sp) (sym (c .before .before .before .before .before .before .before .before .before .is-high .ensures) ∙ c .before .before .before .before .before .before .before .before .if1 .left)) in omega (arith, s, h) in
     let o = c .before .before .before .before .before .before .before .before .before .before .before .before .before .pre in
     let fits : Fits (a .r) e m =
@@ -96,8 +97,8 @@ returns-3 : tie.Need-returns-3
 returns-3 c =
     let a = c .before .before .before .before .before .before .before .before .before .before .before .before .before .before .before .before .before .before .before .before .before .args in
     let m = memory (a .bits .now) (a .tags .now) (a .history .now) in
-    let e = (rarely (a .d .rare) (a .r) (cellAt m (record { 0 = a .d .at })) (a .d)) in
-    let s : e .sp ≡ a .d .sp = rarely-sp (a .d .rare) (a .r) (cellAt m (record { 0 = a .d .at })) (a .d) in
+    let e = (rarely (a .d .rare) (a .r) (cellAt (m .cells) (record { 0 = a .d .at })) (a .d)) in
+    let s : e .sp ≡ a .d .sp = rarely-sp (a .d .rare) (a .r) (cellAt (m .cells) (record { 0 = a .d .at })) (a .d) in
     let low : e .sp < a .r .n = let h = (leb-false (a .r .n) (a .d .sp) (sym (c .before .before .before .before .before .before .before .before .before .before .before .before .before .before .before .before .before .is-high .ensures) ∙ c .before .before .before .before .before .before .before .before .before .before .before .before .before .before .before .before .if1 .left)) in omega (arith, s, h) in
     let done = rw (c .before .before .before .before .before .before .before .before .before .before .before .before .before .rare-effect .ensures) at (c .before .before .before .before .before .before .before .commit .ensures) in
     carried-does (a .r) m _ e _ _ (c .made .ensures) low (ap (roomFor (a .r)) (sym (c .before .before .before .before .before .before .before .before .before .before .before .before .before .rare-effect .ensures)) ∙ sym (c .before .before .before .before .before .before .before .before .before .before .before .before .has-room .ensures) ∙ not-false _ (c .before .before .before .before .before .before .before .before .before .before .before .if2 .left)) (done .0) (done .1)

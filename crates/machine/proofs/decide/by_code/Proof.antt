@@ -1,9 +1,8 @@
 -- `machine::decide::by_code` meets its contract. Assumes nothing.
-use mathlib.Core.List.{[]}
 use native.Mathlib.Omega.{arith}
-use Rattle.rules.specs.State.{memory}
+use Rattle.rules.specs.Cells.{cells}
 use Rattle.rules.specs.Instructions.{rows, rowOf, actionOf}
-use Rattle.rules.specs.Decide.{onValues, decide}
+use Rattle.rules.specs.Decide.{decide}
 use Rattle.machine.proofs.Pairs.{left-over}
 use Rattle.machine.proofs.decide.by_code.Statement.{statement}
 use Rattle.machine.proofs.decide.by_code.Tie as tie
@@ -171,119 +170,119 @@ on-two-requires : tie.Need-on-two-requires
 on-two-requires c κs = (c .before .before .before .pre .0, c .before .before .before .pre .1, left-over _ (c .before .before .before .pre .2) (c .match .rest))
 
 returns : tie.Need-returns
-unfolding decide onValues actionOf rowOf rows
-returns c = rw (c .before .match .keys1, c .halted .ensures (memory (c .before .before .before .before .args .bits .now) (c .before .before .before .before .args .tags .now) []))
+unfolding decide actionOf rowOf rows
+returns c = rw (c .before .match .keys1, c .halted .ensures (cells (c .before .before .before .before .args .bits .now) (c .before .before .before .before .args .tags .now)))
 
 returns-2 : tie.Need-returns-2
-unfolding decide onValues actionOf rowOf rows
-returns-2 c = rw (c .before .before .match .keys2, c .on-push .ensures (memory (c .before .before .before .before .before .args .bits .now) (c .before .before .before .before .before .args .tags .now) []), c .before .int-cell .ensures)
+unfolding decide actionOf rowOf rows
+returns-2 c = rw (c .before .before .match .keys2, c .on-push .ensures (cells (c .before .before .before .before .before .args .bits .now) (c .before .before .before .before .before .args .tags .now)), c .before .int-cell .ensures)
 
 returns-3 : tie.Need-returns-3
-unfolding decide onValues actionOf rowOf rows
-returns-3 c = rw (c .before .before .match .keys3, c .on-push2 .ensures (memory (c .before .before .before .before .before .args .bits .now) (c .before .before .before .before .before .args .tags .now) []), c .before .float-cell .ensures)
+unfolding decide actionOf rowOf rows
+returns-3 c = rw (c .before .before .match .keys3, c .on-push2 .ensures (cells (c .before .before .before .before .before .args .bits .now) (c .before .before .before .before .before .args .tags .now)), c .before .float-cell .ensures)
 
 returns-4 : tie.Need-returns-4
-unfolding decide onValues actionOf rowOf rows
-returns-4 c = rw (c .before .before .match .keys4, c .on-dup .ensures (memory (c .before .before .before .before .before .args .bits .now) (c .before .before .before .before .before .args .tags .now) []), c .before .top .ensures)
+unfolding decide actionOf rowOf rows
+returns-4 c = rw (c .before .before .match .keys4, c .on-dup .ensures (cells (c .before .before .before .before .before .args .bits .now) (c .before .before .before .before .before .args .tags .now)), c .before .top .ensures)
 
 returns-5 : tie.Need-returns-5
-unfolding decide onValues actionOf rowOf rows
-returns-5 c = rw (c .before .before .match .keys5, c .on-swap .ensures (memory (c .before .before .before .before .before .args .bits .now) (c .before .before .before .before .before .args .tags .now) []), c .before .top2 .ensures)
+unfolding decide actionOf rowOf rows
+returns-5 c = rw (c .before .before .match .keys5, c .on-swap .ensures (cells (c .before .before .before .before .before .args .bits .now) (c .before .before .before .before .before .args .tags .now)), c .before .top2 .ensures)
 
 returns-6 : tie.Need-returns-6
-unfolding decide onValues actionOf rowOf rows
-returns-6 c = rw (c .before .before .match .keys6, c .on-not .ensures (memory (c .before .before .before .before .before .args .bits .now) (c .before .before .before .before .before .args .tags .now) []), c .before .top3 .ensures)
+unfolding decide actionOf rowOf rows
+returns-6 c = rw (c .before .before .match .keys6, c .on-not .ensures (cells (c .before .before .before .before .before .args .bits .now) (c .before .before .before .before .before .args .tags .now)), c .before .top3 .ensures)
 
 returns-7 : tie.Need-returns-7
-unfolding decide onValues actionOf rowOf rows
-returns-7 c = rw (c .before .before .match .keys7, c .on-bit-not .ensures (memory (c .before .before .before .before .before .args .bits .now) (c .before .before .before .before .before .args .tags .now) []), c .before .top4 .ensures)
+unfolding decide actionOf rowOf rows
+returns-7 c = rw (c .before .before .match .keys7, c .on-bit-not .ensures (cells (c .before .before .before .before .before .args .bits .now) (c .before .before .before .before .before .args .tags .now)), c .before .top4 .ensures)
 
 returns-8 : tie.Need-returns-8
-unfolding decide onValues actionOf rowOf rows
-returns-8 c = rw (c .before .before .match .keys8, c .on-is-nil .ensures (memory (c .before .before .before .before .before .args .bits .now) (c .before .before .before .before .before .args .tags .now) []), c .before .top5 .ensures)
+unfolding decide actionOf rowOf rows
+returns-8 c = rw (c .before .before .match .keys8, c .on-is-nil .ensures (cells (c .before .before .before .before .before .args .bits .now) (c .before .before .before .before .before .args .tags .now)), c .before .top5 .ensures)
 
 returns-9 : tie.Need-returns-9
-unfolding decide onValues actionOf rowOf rows
-returns-9 c = rw (c .before .before .match .keys9, c .on-is-pos .ensures (memory (c .before .before .before .before .before .args .bits .now) (c .before .before .before .before .before .args .tags .now) []), c .before .top6 .ensures)
+unfolding decide actionOf rowOf rows
+returns-9 c = rw (c .before .before .match .keys9, c .on-is-pos .ensures (cells (c .before .before .before .before .before .args .bits .now) (c .before .before .before .before .before .args .tags .now)), c .before .top6 .ensures)
 
 returns-10 : tie.Need-returns-10
-unfolding decide onValues actionOf rowOf rows
-returns-10 c = rw (c .before .before .match .keys10, c .on-is-neg .ensures (memory (c .before .before .before .before .before .args .bits .now) (c .before .before .before .before .before .args .tags .now) []), c .before .top7 .ensures)
+unfolding decide actionOf rowOf rows
+returns-10 c = rw (c .before .before .match .keys10, c .on-is-neg .ensures (cells (c .before .before .before .before .before .args .bits .now) (c .before .before .before .before .before .args .tags .now)), c .before .top7 .ensures)
 
 returns-11 : tie.Need-returns-11
-unfolding decide onValues actionOf rowOf rows
-returns-11 c = rw (c .before .before .before .match .keys11, c .on-push3 .ensures (memory (c .before .before .before .before .before .before .args .bits .now) (c .before .before .before .before .before .before .args .tags .now) []), c .before .memory-cell .ensures)
+unfolding decide actionOf rowOf rows
+returns-11 c = rw (c .before .before .before .match .keys11, c .on-push3 .ensures (cells (c .before .before .before .before .before .before .args .bits .now) (c .before .before .before .before .before .before .args .tags .now)), c .before .memory-cell .ensures)
 
 returns-12 : tie.Need-returns-12
-unfolding decide onValues actionOf rowOf rows
-returns-12 c = rw (c .before .before .match .keys12, c .on-pop-sp .ensures (memory (c .before .before .before .before .before .args .bits .now) (c .before .before .before .before .before .args .tags .now) []), c .before .top8 .ensures)
+unfolding decide actionOf rowOf rows
+returns-12 c = rw (c .before .before .match .keys12, c .on-pop-sp .ensures (cells (c .before .before .before .before .before .args .bits .now) (c .before .before .before .before .before .args .tags .now)), c .before .top8 .ensures)
 
 returns-13 : tie.Need-returns-13
-unfolding decide onValues actionOf rowOf rows
-returns-13 c = rw (c .before .before .before .match .keys13, c .on-push4 .ensures (memory (c .before .before .before .before .before .before .args .bits .now) (c .before .before .before .before .before .before .args .tags .now) []), c .before .memory-cell2 .ensures)
+unfolding decide actionOf rowOf rows
+returns-13 c = rw (c .before .before .before .match .keys13, c .on-push4 .ensures (cells (c .before .before .before .before .before .before .args .bits .now) (c .before .before .before .before .before .before .args .tags .now)), c .before .memory-cell2 .ensures)
 
 returns-14 : tie.Need-returns-14
-unfolding decide onValues actionOf rowOf rows
-returns-14 c = rw (c .before .before .match .keys14, c .on-pop-fbr .ensures (memory (c .before .before .before .before .before .args .bits .now) (c .before .before .before .before .before .args .tags .now) []), c .before .top9 .ensures)
+unfolding decide actionOf rowOf rows
+returns-14 c = rw (c .before .before .match .keys14, c .on-pop-fbr .ensures (cells (c .before .before .before .before .before .args .bits .now) (c .before .before .before .before .before .args .tags .now)), c .before .top9 .ensures)
 
 returns-15 : tie.Need-returns-15
-unfolding decide onValues actionOf rowOf rows
-returns-15 c = rw (c .before .match .keys15, c .linked .ensures (memory (c .before .before .before .before .args .bits .now) (c .before .before .before .before .args .tags .now) []))
+unfolding decide actionOf rowOf rows
+returns-15 c = rw (c .before .match .keys15, c .linked .ensures (cells (c .before .before .before .before .args .bits .now) (c .before .before .before .before .args .tags .now)))
 
 returns-16 : tie.Need-returns-16
-unfolding decide onValues actionOf rowOf rows
-returns-16 c = rw (c .before .match .keys16, c .on-add-sp .ensures (memory (c .before .before .before .before .args .bits .now) (c .before .before .before .before .args .tags .now) []))
+unfolding decide actionOf rowOf rows
+returns-16 c = rw (c .before .match .keys16, c .on-add-sp .ensures (cells (c .before .before .before .before .args .bits .now) (c .before .before .before .before .args .tags .now)))
 
 returns-17 : tie.Need-returns-17
-unfolding decide onValues actionOf rowOf rows
-returns-17 c = rw (c .before .before .match .keys17, c .on-push-ind .ensures (memory (c .before .before .before .before .before .args .bits .now) (c .before .before .before .before .before .args .tags .now) []), c .before .top10 .ensures)
+unfolding decide actionOf rowOf rows
+returns-17 c = rw (c .before .before .match .keys17, c .on-push-ind .ensures (cells (c .before .before .before .before .before .args .bits .now) (c .before .before .before .before .before .args .tags .now)), c .before .top10 .ensures)
 
 returns-18 : tie.Need-returns-18
-unfolding decide onValues actionOf rowOf rows
-returns-18 c = rw (c .before .before .before .match .keys18, c .on-store-ind .ensures (memory (c .before .before .before .before .before .before .args .bits .now) (c .before .before .before .before .before .before .args .tags .now) []), c .before .top11 .ensures, c .before .before .second .ensures)
+unfolding decide actionOf rowOf rows
+returns-18 c = rw (c .before .before .before .match .keys18, c .on-store-ind .ensures (cells (c .before .before .before .before .before .before .args .bits .now) (c .before .before .before .before .before .before .args .tags .now)), c .before .top11 .ensures, c .before .before .second .ensures)
 
 returns-19 : tie.Need-returns-19
-unfolding decide onValues actionOf rowOf rows
-returns-19 c = rw (c .before .match .keys19, c .on-push-off .ensures (memory (c .before .before .before .before .args .bits .now) (c .before .before .before .before .args .tags .now) []))
+unfolding decide actionOf rowOf rows
+returns-19 c = rw (c .before .match .keys19, c .on-push-off .ensures (cells (c .before .before .before .before .args .bits .now) (c .before .before .before .before .args .tags .now)))
 
 returns-20 : tie.Need-returns-20
-unfolding decide onValues actionOf rowOf rows
-returns-20 c = rw (c .before .before .match .keys20, c .on-store-off .ensures (memory (c .before .before .before .before .before .args .bits .now) (c .before .before .before .before .before .args .tags .now) []), c .before .top12 .ensures)
+unfolding decide actionOf rowOf rows
+returns-20 c = rw (c .before .before .match .keys20, c .on-store-off .ensures (cells (c .before .before .before .before .before .args .bits .now) (c .before .before .before .before .before .args .tags .now)), c .before .top12 .ensures)
 
 returns-21 : tie.Need-returns-21
-unfolding decide onValues actionOf rowOf rows
-returns-21 c = rw (c .before .match .keys21, c .on-jump .ensures (memory (c .before .before .before .before .args .bits .now) (c .before .before .before .before .args .tags .now) []))
+unfolding decide actionOf rowOf rows
+returns-21 c = rw (c .before .match .keys21, c .on-jump .ensures (cells (c .before .before .before .before .args .bits .now) (c .before .before .before .before .args .tags .now)))
 
 returns-22 : tie.Need-returns-22
-unfolding decide onValues actionOf rowOf rows
-returns-22 c = rw (c .before .before .match .keys22, c .on-jump-c .ensures (memory (c .before .before .before .before .before .args .bits .now) (c .before .before .before .before .before .args .tags .now) []), c .before .top13 .ensures)
+unfolding decide actionOf rowOf rows
+returns-22 c = rw (c .before .before .match .keys22, c .on-jump-c .ensures (cells (c .before .before .before .before .before .args .bits .now) (c .before .before .before .before .before .args .tags .now)), c .before .top13 .ensures)
 
 returns-23 : tie.Need-returns-23
-unfolding decide onValues actionOf rowOf rows
-returns-23 c = rw (c .before .before .match .keys23, c .on-jump-ind .ensures (memory (c .before .before .before .before .before .args .bits .now) (c .before .before .before .before .before .args .tags .now) []), c .before .top14 .ensures)
+unfolding decide actionOf rowOf rows
+returns-23 c = rw (c .before .before .match .keys23, c .on-jump-ind .ensures (cells (c .before .before .before .before .before .args .bits .now) (c .before .before .before .before .before .args .tags .now)), c .before .top14 .ensures)
 
 returns-24 : tie.Need-returns-24
-unfolding decide onValues actionOf rowOf rows
-returns-24 c = rw (c .before .match .keys24, c .on-jsr .ensures (memory (c .before .before .before .before .args .bits .now) (c .before .before .before .before .args .tags .now) []))
+unfolding decide actionOf rowOf rows
+returns-24 c = rw (c .before .match .keys24, c .on-jsr .ensures (cells (c .before .before .before .before .args .bits .now) (c .before .before .before .before .args .tags .now)))
 
 returns-25 : tie.Need-returns-25
-unfolding decide onValues actionOf rowOf rows
-returns-25 c = rw (c .before .before .match .keys25, c .on-jsr-ind .ensures (memory (c .before .before .before .before .before .args .bits .now) (c .before .before .before .before .before .args .tags .now) []), c .before .top15 .ensures)
+unfolding decide actionOf rowOf rows
+returns-25 c = rw (c .before .before .match .keys25, c .on-jsr-ind .ensures (cells (c .before .before .before .before .before .args .bits .now) (c .before .before .before .before .before .args .tags .now)), c .before .top15 .ensures)
 
 returns-26 : tie.Need-returns-26
-unfolding decide onValues actionOf rowOf rows
-returns-26 c = rw (c .before .before .match .keys26, c .on-push5 .ensures (memory (c .before .before .before .before .before .args .bits .now) (c .before .before .before .before .before .args .tags .now) []), c .before .program-cell .ensures)
+unfolding decide actionOf rowOf rows
+returns-26 c = rw (c .before .before .match .keys26, c .on-push5 .ensures (cells (c .before .before .before .before .before .args .bits .now) (c .before .before .before .before .before .args .tags .now)), c .before .program-cell .ensures)
 
 returns-27 : tie.Need-returns-27
-unfolding decide onValues actionOf rowOf rows
-returns-27 c = rw (c .before .before .match .keys27, c .on-to-float .ensures (memory (c .before .before .before .before .before .args .bits .now) (c .before .before .before .before .before .args .tags .now) []), c .before .top16 .ensures)
+unfolding decide actionOf rowOf rows
+returns-27 c = rw (c .before .before .match .keys27, c .on-to-float .ensures (cells (c .before .before .before .before .before .args .bits .now) (c .before .before .before .before .before .args .tags .now)), c .before .top16 .ensures)
 
 returns-28 : tie.Need-returns-28
-unfolding decide onValues actionOf rowOf rows
-returns-28 c = rw (c .before .before .match .keys28, c .on-to-int .ensures (memory (c .before .before .before .before .before .args .bits .now) (c .before .before .before .before .before .args .tags .now) []), c .before .top17 .ensures)
+unfolding decide actionOf rowOf rows
+returns-28 c = rw (c .before .before .match .keys28, c .on-to-int .ensures (cells (c .before .before .before .before .before .args .bits .now) (c .before .before .before .before .before .args .tags .now)), c .before .top17 .ensures)
 
 returns-29 : tie.Need-returns-29
-unfolding decide onValues actionOf rowOf rows
+unfolding decide actionOf rowOf rows
 returns-29 c = c .on-two .ensures _
 
 pub by-code-spec : {M : Type 1} → statement M

@@ -2,7 +2,6 @@
 use lib.IntN.{_+ℤ_, _-ℤ_}
 use Rattle.rules.specs.Words.{signed}
 use Rattle.rules.specs.Instructions.{rows, rowOf, actionOf}
-use Rattle.rules.specs.Decide.{onValues}
 use Rattle.machine.proofs.Pairs.{first-pair}
 use Rattle.machine.proofs.decide.on_pair.Statement.{statement}
 use Rattle.machine.proofs.decide.on_pair.Tie as tie
@@ -152,102 +151,102 @@ on-sums-requires-2 : tie.Need-on-sums-requires-2
 on-sums-requires-2 c κs = (c .before .before .before .pre .0, c .before .before .before .pre .1)
 
 returns : tie.Need-returns
-unfolding onValues actionOf rowOf rows
+unfolding actionOf rowOf rows
 returns c m n =
     let a = c .before .before .before .before .args in
     rw (c .before .before .before .match .keys1)
     (c .on-sums .ensures (signed (a .vb .bits) -ℤ signed (a .vt .bits)) (c .before .before .minus .ensures) (c .before .minus-in-word .ensures) m)
 
 returns-2 : tie.Need-returns-2
-unfolding onValues actionOf rowOf rows
+unfolding actionOf rowOf rows
 returns-2 c m n = rw (c .before .before .match .keys2, c .on-ints .ensures m, c .before .times .ensures)
 
 returns-3 : tie.Need-returns-3
-unfolding onValues actionOf rowOf rows
+unfolding actionOf rowOf rows
 returns-3 c m n = rw (c .before .before .match .keys3, c .on-divides .ensures m, c .before .quotient .ensures)
 
 returns-4 : tie.Need-returns-4
-unfolding onValues actionOf rowOf rows
+unfolding actionOf rowOf rows
 returns-4 c m n = rw (c .before .before .match .keys4, c .on-divides2 .ensures m, c .before .remainder .ensures)
 
 returns-5 : tie.Need-returns-5
-unfolding onValues actionOf rowOf rows
+unfolding actionOf rowOf rows
 returns-5 c m n = rw (c .before .before .match .keys5, c .on-floats .ensures m, c .before .plus-f .ensures)
 
 returns-6 : tie.Need-returns-6
-unfolding onValues actionOf rowOf rows
+unfolding actionOf rowOf rows
 returns-6 c m n = rw (c .before .before .match .keys6, c .on-floats2 .ensures m, c .before .minus-f .ensures)
 
 returns-7 : tie.Need-returns-7
-unfolding onValues actionOf rowOf rows
+unfolding actionOf rowOf rows
 returns-7 c m n = rw (c .before .before .match .keys7, c .on-floats3 .ensures m, c .before .times-f .ensures)
 
 returns-8 : tie.Need-returns-8
-unfolding onValues actionOf rowOf rows
+unfolding actionOf rowOf rows
 returns-8 c m n = rw (c .before .before .match .keys8, c .on-floats4 .ensures m, c .before .quotient-f .ensures)
 
 returns-9 : tie.Need-returns-9
-unfolding onValues actionOf rowOf rows
+unfolding actionOf rowOf rows
 returns-9 c m n = rw (c .before .before .match .keys9, c .on-ints2 .ensures m, c .before .and .ensures)
 
 returns-10 : tie.Need-returns-10
-unfolding onValues actionOf rowOf rows
+unfolding actionOf rowOf rows
 returns-10 c m n = rw (c .before .before .match .keys10, c .on-ints3 .ensures m, c .before .or .ensures)
 
 returns-11 : tie.Need-returns-11
-unfolding onValues actionOf rowOf rows
+unfolding actionOf rowOf rows
 returns-11 c m n = rw (c .before .before .match .keys11, c .on-ints4 .ensures m, c .before .nand .ensures)
 
 returns-12 : tie.Need-returns-12
-unfolding onValues actionOf rowOf rows
+unfolding actionOf rowOf rows
 returns-12 c m n = rw (c .before .before .match .keys12, c .on-ints5 .ensures m, c .before .nor .ensures)
 
 returns-13 : tie.Need-returns-13
-unfolding onValues actionOf rowOf rows
+unfolding actionOf rowOf rows
 returns-13 c m n = rw (c .before .before .match .keys13, c .on-ints6 .ensures m, c .before .xor .ensures)
 
 returns-14 : tie.Need-returns-14
-unfolding onValues actionOf rowOf rows
+unfolding actionOf rowOf rows
 returns-14 c m n = rw (c .before .before .match .keys14, c .on-ints7 .ensures m, c .before .bit-and .ensures)
 
 returns-15 : tie.Need-returns-15
-unfolding onValues actionOf rowOf rows
+unfolding actionOf rowOf rows
 returns-15 c m n = rw (c .before .before .match .keys15, c .on-ints8 .ensures m, c .before .bit-or .ensures)
 
 returns-16 : tie.Need-returns-16
-unfolding onValues actionOf rowOf rows
+unfolding actionOf rowOf rows
 returns-16 c m n = rw (c .before .before .match .keys16, c .on-ints9 .ensures m, c .before .bit-nand .ensures)
 
 returns-17 : tie.Need-returns-17
-unfolding onValues actionOf rowOf rows
+unfolding actionOf rowOf rows
 returns-17 c m n = rw (c .before .before .match .keys17, c .on-ints10 .ensures m, c .before .bit-nor .ensures)
 
 returns-18 : tie.Need-returns-18
-unfolding onValues actionOf rowOf rows
+unfolding actionOf rowOf rows
 returns-18 c m n = rw (c .before .before .match .keys18, c .on-ints11 .ensures m, c .before .bit-xor .ensures)
 
 returns-19 : tie.Need-returns-19
-unfolding onValues actionOf rowOf rows
+unfolding actionOf rowOf rows
 returns-19 c m n = rw (c .before .before .match .keys19, c .on-ints12 .ensures m, c .before .ordered .ensures)
 
 returns-20 : tie.Need-returns-20
-unfolding onValues actionOf rowOf rows
+unfolding actionOf rowOf rows
 returns-20 c m n = rw (c .before .match .keys20, c .on-compare-floats .ensures m)
 
 returns-21 : tie.Need-returns-21
-unfolding onValues actionOf rowOf rows
+unfolding actionOf rowOf rows
 returns-21 c m n = rw (c .before .before .match .keys21, c .on-ints13 .ensures m, c .before .greater .ensures)
 
 returns-22 : tie.Need-returns-22
-unfolding onValues actionOf rowOf rows
+unfolding actionOf rowOf rows
 returns-22 c m n = rw (c .before .before .match .keys22, c .on-ints14 .ensures m, c .before .less .ensures)
 
 returns-23 : tie.Need-returns-23
-unfolding onValues actionOf rowOf rows
+unfolding actionOf rowOf rows
 returns-23 c m n = rw (c .before .match .keys23, c .on-equal .ensures m)
 
 returns-24 : tie.Need-returns-24
-unfolding onValues actionOf rowOf rows
+unfolding actionOf rowOf rows
 returns-24 c m n =
     let a = c .before .before .before .before .args in
     rw (first-pair _ (c .before .before .before .before .pre .2) (c .before .before .before .match .rest))

@@ -1,8 +1,7 @@
 -- `machine::decide::on_two` meets its contract. Assumes nothing.
 use Prim.Native.Nat.{_-_}
 use mathlib.Core.Path.{sym, _∙_}
-use mathlib.Core.List.{[]}
-use Rattle.rules.specs.State.{memory, cellAt}
+use Rattle.rules.specs.Cells.{cells, cellAt}
 use Rattle.rules.specs.Decide.{decide}
 use Rattle.machine.specs.Plan.{planned}
 use Rattle.machine.proofs.Pairs.{pair-few}
@@ -15,7 +14,7 @@ unfolding decide planned
 returns c n =
     let a = c .before .before .before .before .args in
     let r = a .r in
-    let m = memory (a .bits .now) (a .tags .now) [] in
+    let m = cells (a .bits .now) (a .tags .now) in
     sym (pair-few r m n (cellAt m (record { 0 = r .sp - 2 })) (cellAt m (record { 0 = r .sp - 1 })) (c .if1 .taken) (a .code) (c .before .before .before .before .pre .2))
 
 second-requires : tie.Need-second-requires

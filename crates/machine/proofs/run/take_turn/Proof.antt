@@ -1,16 +1,12 @@
 -- `machine::run::take_turn` meets its contract: 1 and 2, and then what the instruction decides, carried out. Assumes nothing.
 use mathlib.Core.Path.{sym, ap, _∙_}
-use mathlib.Core.List.{[]}
 use native.Mathlib.Omega.{arith}
-use lib.ListN.{getD}
 use Rattle.rules.specs.Table.{program}
 use Rattle.rules.specs.State.{memory}
 use Rattle.rules.specs.Step.{fitted, carried}
 use Rattle.rules.specs.declared.Decision.{Decision}
 use Rattle.rules.specs.declared.MachineRefusal.the-variants.{AlreadyHalted, AtEnd}
-use Rattle.rules.proofs.Sound.{decide-history}
 use Rattle.machine.proofs.Steps.{judged-halted, judged-end, small, live, step-refuses, placed, coded, opens, step-carries}
-use Rattle.machine.proofs.Carries.{planned-history}
 use borrow.Author.Needs.{needs}
 use Rattle.machine.proofs.run.take_turn.Statement.{statement}
 use Rattle.machine.proofs.run.take_turn.Tie as tie
@@ -56,9 +52,7 @@ carry-requires : tie.Need-carry-requires
 carry-requires c κs e q =
     let a = c .before .before .before .before .before .before .before .before .before .before .before .before .before .before .args in
     opens (program (a .table .now) (a .count)) (a .r) (memory (a .bits .now) (a .tags .now) (a .history .now)) (c .before .before .before .before .before .before .before .before .before .before .before .before .before .before .pre) (c .before .before .before .before .before .before .before .before .if1 .left) (c .before .before .before .before .before .before .before .if2 .left) e
-    (sym
-    (planned-history (a .r) (a .bits .now) (a .tags .now) (a .history .now) [] (c .before .before .before .decide-at .result) ∙ c .before .before .before .decide-at .ensures
-    ∙ decide-history (a .r) (a .bits .now) (a .tags .now) [] (a .history .now) (getD (a .table .now) (a .r .pc) 0)) ∙ q)
+    (sym (c .before .before .before .decide-at .ensures) ∙ q)
 
 same-length : tie.Need-same-length
 same-length c = search needs
@@ -75,8 +69,7 @@ returns-3 c =
     let m = memory (a .bits .now) (a .tags .now) (a .history .now) in
     c .before .before .before .before .before .before .carry .ensures
     ∙ ap (λ (z : Decision). carried (a .r) m (fitted (a .r) z))
-    (planned-history (a .r) (a .bits .now) (a .tags .now) (a .history .now) [] (c .before .before .before .before .before .before .before .before .before .before .decide-at .result) ∙ c .before .before .before .before .before .before .before .before .before .before .decide-at .ensures
-    ∙ decide-history (a .r) (a .bits .now) (a .tags .now) [] (a .history .now) (getD (a .table .now) (a .r .pc) 0))
+    (c .before .before .before .before .before .before .before .before .before .before .decide-at .ensures)
     ∙ sym (step-carries (program (a .table .now) (a .count)) (a .r) m (c .before .before .before .before .before .before .before .before .before .before .before .before .before .before .before .before .before .before .before .before .before .pre) (c .before .before .before .before .before .before .before .before .before .before .before .before .before .before .before .if1 .left) (c .before .before .before .before .before .before .before .before .before .before .before .before .before .before .if2 .left))
 
 pub take-turn-spec : {M : Type 1} → statement M

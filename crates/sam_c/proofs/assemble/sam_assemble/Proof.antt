@@ -1,16 +1,24 @@
 -- `sam_assemble` meets its contract: what the assembler answers and leaves, with the length and the position told. Assumes nothing.
 use mathlib.Core.Path.{sym, _∙_}
 use borrow.Author.Needs.{needs}
+use Rattle.rules.specs.Sizes.{maxProgram}
 use Rattle.rules.specs.Numbers.{numberOfAssembled, lengthOfAssembled, positionOfAssembled}
 use Rattle.rules.specs.declared.Assembled.{Assembled}
 use Rattle.sam_c.specs.Calls.{placed}
-use Rattle.sam_c.proofs.Lent.{of-another}
-use Rattle.sam_c.proofs.Called.{filled-by}
+use Rattle.sam_c.proofs.Called.{filled-by, untold-by}
 use Rattle.sam_c.proofs.assemble.sam_assemble.Statement.{statement}
 use Rattle.sam_c.proofs.assemble.sam_assemble.Tie as tie
 
+blank-places-requires : tie.Need-blank-places-requires
+blank-places-requires c κs = search needs
+
+same-length : tie.Need-same-length
+same-length c = search needs
+
 returns : tie.Need-returns
-returns c = sym (of-another 4 (c .before .before .before .before .args .told .now) _ _ (c .if1 .taken))
+returns c =
+    let a = c .before .before .before .before .before .before .before .before .args in
+    untold-by 4 (a .told .now) (c .before .before .before .before .if1 .taken) maxProgram (a .table .now) _ (c .before .before .blank-places .ensures)
 
 assemble-requires : tie.Need-assemble-requires
 assemble-requires c κs = search needs
@@ -27,11 +35,11 @@ tell-placed-requires c κs = search needs
 assembled-number-requires : tie.Need-assembled-number-requires
 assembled-number-requires c κs = search needs
 
-same-length : tie.Need-same-length
-same-length c = search needs
-
 same-length-2 : tie.Need-same-length-2
 same-length-2 c = search needs
+
+same-length-3 : tie.Need-same-length-3
+same-length-3 c = search needs
 
 returns-2 : tie.Need-returns-2
 returns-2 c =
@@ -45,12 +53,14 @@ pub sam-assemble-spec : {M : Type 1} → statement M
 sam-assemble-spec =
     tie.close
     (tie.spec
+    blank-places-requires
+    same-length
     returns
     assemble-requires
     assembled-length-requires
     assembled-position-requires
     tell-placed-requires
     assembled-number-requires
-    same-length
     same-length-2
+    same-length-3
     returns-2)

@@ -1,17 +1,25 @@
 -- `sam_list` meets its contract: what the lister answers and leaves, and the length told. Assumes nothing.
 use Prim.Native.Nat.{ℕ}
-use mathlib.Core.Path.{sym, ap, _∙_}
+use mathlib.Core.Path.{ap, _∙_}
 use mathlib.Core.List.{[], _∷_}
 use borrow.Author.Needs.{needs}
+use Rattle.rules.specs.Sizes.{listingSize}
 use Rattle.rules.specs.Numbers.{numberOfListed, lengthOfListed}
 use Rattle.rules.specs.declared.Listed.{Listed}
-use Rattle.sam_c.proofs.Lent.{of-another}
-use Rattle.sam_c.proofs.Called.{filled-by}
+use Rattle.sam_c.proofs.Called.{filled-by, untold-by}
 use Rattle.sam_c.proofs.list.sam_list.Statement.{statement}
 use Rattle.sam_c.proofs.list.sam_list.Tie as tie
 
+blank-bytes-requires : tie.Need-blank-bytes-requires
+blank-bytes-requires c κs = search needs
+
+same-length : tie.Need-same-length
+same-length c = search needs
+
 returns : tie.Need-returns
-returns c = sym (of-another 1 (c .before .before .before .before .args .told .now) _ _ (c .if1 .taken))
+returns c =
+    let a = c .before .before .before .before .before .before .before .before .args in
+    untold-by 1 (a .told .now) (c .before .before .before .before .if1 .taken) listingSize (a .text .now) _ (c .before .before .blank-bytes .ensures)
 
 list-requires : tie.Need-list-requires
 list-requires c κs = search needs
@@ -25,11 +33,11 @@ tell-requires c κs = search needs
 listed-number-requires : tie.Need-listed-number-requires
 listed-number-requires c κs = search needs
 
-same-length : tie.Need-same-length
-same-length c = search needs
-
 same-length-2 : tie.Need-same-length-2
 same-length-2 c = search needs
+
+same-length-3 : tie.Need-same-length-3
+same-length-3 c = search needs
 
 returns-2 : tie.Need-returns-2
 returns-2 c =
@@ -43,11 +51,13 @@ pub sam-list-spec : {M : Type 1} → statement M
 sam-list-spec =
     tie.close
     (tie.spec
+    blank-bytes-requires
+    same-length
     returns
     list-requires
     listed-length-requires
     tell-requires
     listed-number-requires
-    same-length
     same-length-2
+    same-length-3
     returns-2)

@@ -1,14 +1,26 @@
 -- `sam_reset` meets its contract: what the reset answers and leaves. Assumes nothing.
-use mathlib.Core.Path.{sym}
+use Prim.Native.Nat.{ℕ}
+use mathlib.Core.Path.{sym, ap, _∙_}
 use borrow.Author.Needs.{needs}
-use Rattle.sam_c.specs.Calls.{registerCount}
+use Rattle.rules.specs.State.{memory}
+use Rattle.sam_c.specs.Calls.{moved, notRegisters, registerCount}
 use Rattle.sam_c.proofs.Lent.{of-another}
 use Rattle.sam_c.proofs.Called.{reset-called}
 use Rattle.sam_c.proofs.reset.sam_reset.Statement.{statement}
 use Rattle.sam_c.proofs.reset.sam_reset.Tie as tie
 
+has-start-sizes-requires : tie.Need-has-start-sizes-requires
+has-start-sizes-requires c κs = search needs
+
+refused-requires : tie.Need-refused-requires
+refused-requires c κs = search needs
+
 returns : tie.Need-returns
-returns c = sym (of-another registerCount (c .before .before .before .before .before .before .args .registers .now) _ _ (c .if1 .taken))
+returns c =
+    let a = c .before .before .before .before .before .before .before .before .args in
+    ap (λ (k : ℕ). moved k (a .registers .now) (memory (a .bits .now) (a .tags .now) (a .history .now)))
+    (c .refused .ensures ∙ ap notRegisters (c .before .has-start-sizes .ensures))
+    ∙ sym (of-another registerCount (a .registers .now) _ _ (c .before .before .if1 .taken))
 
 reset-requires : tie.Need-reset-requires
 reset-requires c κs = search needs
@@ -42,6 +54,8 @@ pub sam-reset-spec : {M : Type 1} → statement M
 sam-reset-spec =
     tie.close
     (tie.spec
+    has-start-sizes-requires
+    refused-requires
     returns
     reset-requires
     write-requires

@@ -1,17 +1,25 @@
 -- `sam_unpack` meets its contract: what the unpacker answers and leaves, and the length told. Assumes nothing.
 use Prim.Native.Nat.{ℕ}
-use mathlib.Core.Path.{sym, ap, _∙_}
+use mathlib.Core.Path.{ap, _∙_}
 use mathlib.Core.List.{[], _∷_}
 use borrow.Author.Needs.{needs}
+use Rattle.rules.specs.Sizes.{maxProgram}
 use Rattle.rules.specs.Numbers.{numberOfPacked, lengthOfPacked}
 use Rattle.rules.specs.declared.Packed.{Packed}
-use Rattle.sam_c.proofs.Lent.{of-another}
-use Rattle.sam_c.proofs.Called.{filled-by}
+use Rattle.sam_c.proofs.Called.{filled-by, untold-by}
 use Rattle.sam_c.proofs.unpack.sam_unpack.Statement.{statement}
 use Rattle.sam_c.proofs.unpack.sam_unpack.Tie as tie
 
+blank-places-requires : tie.Need-blank-places-requires
+blank-places-requires c κs = search needs
+
+same-length : tie.Need-same-length
+same-length c = search needs
+
 returns : tie.Need-returns
-returns c = sym (of-another 1 (c .before .before .before .before .args .told .now) _ _ (c .if1 .taken))
+returns c =
+    let a = c .before .before .before .before .before .before .before .before .args in
+    untold-by 1 (a .told .now) (c .before .before .before .before .if1 .taken) maxProgram (a .table .now) _ (c .before .before .blank-places .ensures)
 
 unpack-requires : tie.Need-unpack-requires
 unpack-requires c κs = search needs
@@ -25,11 +33,11 @@ tell-requires c κs = search needs
 packed-number-requires : tie.Need-packed-number-requires
 packed-number-requires c κs = search needs
 
-same-length : tie.Need-same-length
-same-length c = search needs
-
 same-length-2 : tie.Need-same-length-2
 same-length-2 c = search needs
+
+same-length-3 : tie.Need-same-length-3
+same-length-3 c = search needs
 
 returns-2 : tie.Need-returns-2
 returns-2 c =
@@ -43,11 +51,13 @@ pub sam-unpack-spec : {M : Type 1} → statement M
 sam-unpack-spec =
     tie.close
     (tie.spec
+    blank-places-requires
+    same-length
     returns
     unpack-requires
     packed-length-requires
     tell-requires
     packed-number-requires
-    same-length
     same-length-2
+    same-length-3
     returns-2)

@@ -10,14 +10,15 @@ use lib.Dec.{leb, ltb, eqb, lit≤}
 use lib.IntN.{ℤ, pos, negsuc, _+ℤ_}
 use lib.ListN.{length, getD}
 use borrow.Author.Tests.{ltb-true, leb-true, eqb-true, eqb-false, eq-eqb, not-true}
-use Rattle.rules.specs.Lists.{every}
-use Rattle.rules.specs.Tags.{INT, FLOAT, MA, PA, int, pa, has}
+use Rattle.rules.specs.Tags.{INT, FLOAT, MA, PA, int, float, ma, pa, has}
 use Rattle.rules.specs.Words.{signed, holds}
-use Rattle.rules.specs.Floats.{unordered, hasInt}
-use Rattle.rules.specs.Instructions.{Action, stop, pushInt, pushFloat, pushPa, dup, swap, sums, ints, divides, floats, compareFloats, one, toFloat, toInt, equal, isNil, pushSp, popSp, pushFbr, popFbr, link, addSp, pushInd, storeInd, pushOff, storeOff, jump, jumpC, jumpInd, jsr, jsrInd, Row, codes, rows, rowOf, kindOf, actionOf}
+use Rattle.rules.specs.Instructions.{Row, codes, rows, kindOf, actionOf}
 use Rattle.rules.specs.Table.{Program, codeOf, operandOf, within, soundPlace}
-use Rattle.rules.specs.State.{Memory, cellAt, soundCell, soundCells, stateTests, sound}
-use Rattle.rules.specs.Decide.{demand, inside, memoryAddress, programAddress, following, result, swapped, stored, moved, framed, linked, jumped, called, halted, addSpTo, frame, pushable, onValues, decide}
+use Rattle.rules.specs.Cells.{Cells, cellAt}
+use Rattle.rules.specs.State.{Memory, soundCell, soundCells, stateTests, sound}
+use Rattle.rules.specs.Decide.{Action, demand, enough, onValues, decide}
+use Rattle.rules.specs.Effects.{memoryAddress, programAddress, following, result, swapped, stored, moved, framed, linked, jumped, called, halted}
+use Rattle.rules.specs.Actions.{inside, frame}
 use Rattle.rules.specs.Commit.{roomFor}
 use Rattle.rules.specs.Step.{decideAt, fitted, judged}
 use Rattle.rules.specs.declared.Cell.{Cell}
@@ -30,9 +31,9 @@ use Rattle.rules.specs.declared.Kind.the-variants.{Bare, Immediate, Patt
 use Rattle.rules.specs.declared.Decision.{Decision}
 use Rattle.rules.specs.declared.Decision.the-variants.{Does, Refuses}
 use Rattle.rules.specs.declared.MachineRefusal.{MachineRefusal}
-use Rattle.rules.specs.declared.MachineRefusal.the-variants.{TooFewValues}
 use Rattle.rules.proofs.Tests.{either, and-left, and-right, implies-true, every-at}
 use Rattle.rules.proofs.Table.{place-sound}
+use Rattle.rules.proofs.Rows.{EachRow, end, _then_, at-code}
 use Rattle.rules.proofs.Fair.{FairCell, FairCells, Sound, Going, Fair}
 
 -- ---- the tests of a sound state, as facts
@@ -61,8 +62,8 @@ pub sound-facts : (p : Program) (r : Registers) (m : Memory) → sound p r m ≡
 unfolding sound
 sound-facts p r m h =
     let at : (k : ℕ) → getD (stateTests p r m) k true ≡ true = λ k. every-at (stateTests p r m) k h in
-    let bits : length (m .bits) ≡ r .n = eqb-true _ _ (at 4) in
-    let tags : length (m .tags) ≡ r .n = eqb-true _ _ (at 5) in
+    let bits : length (m .cells .bits) ≡ r .n = eqb-true _ _ (at 4) in
+    let tags : length (m .cells .tags) ≡ r .n = eqb-true _ _ (at 5) in
     record {
       table = at 0;
       some = leb-true _ _ (at 1);
@@ -78,7 +79,7 @@ sound-facts p r m h =
       used = leb-true _ _ (at 11);
       kept = leb-true _ _ (at 12);
       none = λ q. eqb-true _ _ (implies-true _ _ (at 13) (eq-eqb _ _ q));
-      cells = fair-cells (p .count) (m .tags) (m .bits) (tags ∙ sym bits) (at 14);
+      cells = fair-cells (p .count) (m .cells .tags) (m .cells .bits) (tags ∙ sym bits) (at 14);
     }
 
 -- ---- a decision that does something passed its demands
@@ -93,19 +94,21 @@ pub demand-does : (b : Bool) (x : MachineRefusal) (d : Decision) (e : Effect) �
 demand-does true x d e q = (refl, q)
 demand-does false x d e q = refuses-not x e q
 
--- whatever the decision does meets P
-pub record Meets (P : Effect → Type 0) (d : Decision) : Type 0 where
-  pub meets : (e : Effect) → d ≡ Does e → P e
+-- what an action asked, where it does something
+pub record Passed (r : Registers) (n : ℕ) (vb vt : Cell) (a : Action) : Type 0 where
+  pub needs : enough (a .needs n) (r .sp) ≡ true
+  pub takes : a .takes (vb .tag) (vt .tag) ≡ true
+  pub results : a .results (vb .bits) (vt .bits) ≡ true
+  pub reaches : a .reaches r n vb vt ≡ true
 
-pub meets-does : (P : Effect → Type 0) (x : Effect) → P x → Meets P (Does x)
-meets-does P x h = record { meets = λ e q. subst P (does-is q) h }
-
-pub meets-refuses : (P : Effect → Type 0) (x : MachineRefusal) → Meets P (Refuses x)
-meets-refuses P x = record { meets = λ e q. refuses-not x e q }
-
-pub demands : {P : Effect → Type 0} (b : Bool) (x : MachineRefusal) (d : Decision) → (b ≡ true → Meets P d) → Meets P (demand b x d)
-demands {P} true x d h = h refl
-demands {P} false x d h = meets-refuses P x
+pub values-does : (r : Registers) (c : Cells) (n : ℕ) (vb vt : Cell) (a : Action) (e : Effect) → onValues r c n vb vt a ≡ Does e
+    → Passed r n vb vt a × (a .effect r c n vb vt ≡ e)
+values-does r c n vb vt a e q =
+    let needs = demand-does _ _ _ e q in
+    let takes = demand-does _ _ _ e (needs .1) in
+    let results = demand-does _ _ _ e (takes .1) in
+    let reaches = demand-does _ _ _ e (results .1) in
+    (record { needs = needs .0; takes = takes .0; results = results .0; reaches = reaches .0 }, does-is (reaches .1))
 
 fitted-does : (r : Registers) (d : Decision) (e : Effect) → fitted r d ≡ Does e → (e .sp < r .n) × (roomFor r e ≡ true) × (d ≡ Does e)
 fitted-does r (Does x) e q =
@@ -115,12 +118,12 @@ fitted-does r (Does x) e q =
     (subst (λ (y : Effect). y .sp < r .n) i (ltb-true _ _ (a .0)), subst (λ (y : Effect). roomFor r y ≡ true) i (b .0), b .1)
 fitted-does r (Refuses x) e q = refuses-not x e q
 
-pub judged-going : (p : Program) (r : Registers) (m : Memory) (e : Effect) → judged p r m ≡ Does e → Going p r m e
+pub judged-going : (p : Program) (r : Registers) (m : Memory) (e : Effect) → judged p r (m .cells) ≡ Does e → Going p r m e
 unfolding judged
 judged-going p r m e q =
     let a = demand-does _ _ _ e q in
     let b = demand-does _ _ _ e (a .1) in
-    let c = fitted-does r (decideAt r m (getD (p .places) (r .pc) 0)) e (b .1) in
+    let c = fitted-does r (decideAt r (m .cells) (getD (p .places) (r .pc) 0)) e (b .1) in
     record {
       running = eqb-true _ _ (a .0);
       inside = eqb-false _ _ (not-true _ (b .0));
@@ -131,60 +134,12 @@ judged-going p r m e q =
 
 -- ---- a target is at most the program's length
 
--- the actions that take their operand for a program address
-aims : Action → Bool
-aims stop = false
-aims pushInt = false
-aims pushFloat = false
-aims pushPa = true
-aims dup = false
-aims swap = false
-aims (sums f) = false
-aims (ints f) = false
-aims (divides f) = false
-aims (floats f) = false
-aims compareFloats = false
-aims (one f) = false
-aims toFloat = false
-aims toInt = false
-aims equal = false
-aims isNil = false
-aims pushSp = false
-aims popSp = false
-aims pushFbr = false
-aims popFbr = false
-aims link = false
-aims addSp = false
-aims pushInd = false
-aims storeInd = false
-aims pushOff = false
-aims storeOff = false
-aims jump = true
-aims jumpC = true
-aims jumpInd = false
-aims jsr = true
-aims jsrInd = false
-
 isTarget : Kind → Bool
 isTarget Bare = false
 isTarget Immediate = false
 isTarget Pattern = false
 isTarget Offset = false
 isTarget Target = true
-
--- their operand is a target
-aimed : Row → Bool
-aimed w = not (aims (w .action)) || isTarget (w .kind)
-
--- a test of every row is one of the row at each place, and of the row that stands past the end
-every-row : (t : Row → Bool) (d : Row) → t d ≡ true → (l : List Row) → every (map t l) ≡ true → (c : ℕ) → t (getD l c d) ≡ true
-every-row t d z [] h c = z
-every-row t d z (w ∷ l) h zero = and-left (t w) (every (map t l)) h
-every-row t d z (w ∷ l) h (suc c) = every-row t d z l (and-right (t w) (every (map t l)) h) c
-
-row-aimed : (c : ℕ) → aimed (rowOf c) ≡ true
-unfolding rowOf rows aimed aims isTarget
-row-aimed c = every-row aimed _ refl rows refl c
 
 within-target : (k : Kind) (count v : ℕ) → isTarget k ≡ true → within k count v ≡ true → v ≤ count
 unfolding isTarget
@@ -194,11 +149,10 @@ within-target Pattern count v q h = absurd (false≢true q)
 within-target Offset count v q h = absurd (false≢true q)
 within-target Target count v q h = leb-true v count h
 
-place-aims : (count place : ℕ) → soundPlace count place ≡ true → aims (actionOf (codeOf place)) ≡ true → operandOf place ≤ count
-unfolding soundPlace kindOf actionOf aimed
+place-aims : (count place : ℕ) → soundPlace count place ≡ true → isTarget (kindOf (codeOf place)) ≡ true → operandOf place ≤ count
+unfolding soundPlace
 place-aims count place h q =
-    within-target (kindOf (codeOf place)) count (operandOf place)
-    (implies-true (aims (actionOf (codeOf place))) (isTarget (kindOf (codeOf place))) (row-aimed (codeOf place)) q)
+    within-target (kindOf (codeOf place)) count (operandOf place) q
     (and-right (ltb (codeOf place) codes) (within (kindOf (codeOf place)) count (operandOf place)) h)
 
 -- ---- the effects, each fair where its new SP is below N
@@ -265,95 +219,90 @@ summed count v vb vt h =
     go true q h = omega (arith, eqb-true (vb .tag) INT q)
     go false q h = omega (arith, eqb-true (vb .tag) MA h)
 
--- ---- each action
+-- ---- each row
 module _ (p : Program) (r : Registers) (m : Memory) (s : Sound p r m) (going : r .pc < p .count) (n : ℕ) (vb vt : Cell)
     (hb : FairCell (p .count) vb) (ht : FairCell (p .count) vt) where
   -- an effect whose SP is below N is fair
   abbrev FairBelow : Effect → Type 0
   FairBelow e = e .sp < r .n → Fair p r e
 
-  does : (e : Effect) → FairBelow e → Meets FairBelow (Does e)
-  does e h = meets-does FairBelow e h
+  -- a row's effect is, where it passed what its action asks, and a target is within the program
+  abbrev FairRow : Row → Type 0
+  FairRow w =
+      (isTarget (w .kind) ≡ true → n ≤ p .count) → Passed r n vb vt (w .action) → FairBelow (w .action .effect r (m .cells) n vb vt)
 
-  pushes : (k : ℕ) (c : Cell) → FairCell (p .count) c → Meets FairBelow (Does (result r k c))
-  pushes k c h = does (result r k c) (fair-result p r m s going k c h)
+  -- effects that are fair whatever was asked: a result of INT, FLOAT or MA, and a copy
+  module _ {A B : Type 0} (k : ℕ) where
+    tagged : (t : ℕ) → t ≤ 2 → {b : ℕ} → A → B → FairBelow (result r k (record { bits = b; tag = t }))
+    tagged t h {b} a q = fair-result p r m s going k (record { bits = b; tag = t }) (fair-plain (p .count) t b h)
 
-  -- a result of INT, FLOAT or MA
-  plain : (k t b : ℕ) → t ≤ 2 → Meets FairBelow (Does (result r k (record { bits = b; tag = t })))
-  plain k t b h = pushes k (record { bits = b; tag = t }) (fair-plain (p .count) t b h)
+    ofInt : {b : ℕ} → A → B → FairBelow (result r k (int b))
+    ofInt a q = tagged INT zero-le a q
+
+    ofFloat : {b : ℕ} → A → B → FairBelow (result r k (float b))
+    ofFloat a q = tagged FLOAT (lit≤ tt) a q
+
+    ofMa : {b : ℕ} → A → B → FairBelow (result r k (ma b))
+    ofMa a q = tagged MA (lit≤ tt) a q
+
+    copy : (a : ℕ) → A → B → FairBelow (result r k (cellAt (m .cells) (record { 0 = a })))
+    copy a x q = fair-result p r m s going k _ (s .cells a)
 
   -- a store k below the top
-  stores : (k : ℕ) (z : ℤ) → inside z (r .sp - k) ≡ true → Meets FairBelow (Does (stored r k (memoryAddress z) vt))
-  stores k z i =
-      does (stored r k (memoryAddress z) vt)
-      (fair-stored p r m s going k (memoryAddress z) vt ht (omega (arith, inside-below z (r .sp - k) i, s .sp)))
+  stores : (k : ℕ) (z : ℤ) → inside z (r .sp - k) ≡ true → FairBelow (stored r k (memoryAddress z) vt)
+  stores k z i = fair-stored p r m s going k (memoryAddress z) vt ht (omega (arith, inside-below z (r .sp - k) i, s .sp))
 
-  adds : (z : ℤ) → Meets FairBelow (addSpTo r z)
-  adds (pos a) = does (moved r (r .sp) (record { 0 = a })) (fair-moved p r m s going (r .sp) (record { 0 = a }) (omega arith))
-  adds (negsuc a) = meets-refuses FairBelow TooFewValues
+  jumps : (k : ℕ) (a : ProgramAddress) → a .0 ≤ p .count → FairBelow (jumped r k a)
+  jumps k a h = fair-jumped p r m s going k a h
 
-  -- each action meets it, where an action that aims has an operand within the program
-  fair-values : (a : Action) → (aims a ≡ true → n ≤ p .count) → Meets FairBelow (onValues r m n vb vt a)
-  unfolding aims onValues
-  fair-values stop aim = does (halted r) (λ l. fair-halted p r m s going)
-  fair-values pushInt aim = plain 0 INT n zero-le
-  fair-values pushFloat aim = plain 0 FLOAT n (lit≤ tt)
-  fair-values pushPa aim = pushes 0 (pa n) (record { tag = lit≤ tt; pa = λ t. aim refl })
-  fair-values dup aim = demands (leb 1 (r .sp)) _ _ (λ h. pushes 0 vt ht)
-  fair-values swap aim =
-      demands (leb 2 (r .sp)) _ _ (λ h. does (swapped r vb vt) (λ l. fair-swapped p r m s going vb vt hb ht (leb-true 2 (r .sp) h)))
-  fair-values (sums f) aim =
-      demands (leb 2 (r .sp)) _ _ (λ h. demands (has INT vt && (has INT vb || has MA vb)) _ _ (λ t.
-      demands (pushable vb (f (signed (vb .bits)) (signed (vt .bits)))) _ _ (λ w. pushes 2 _ (summed (p .count) _ vb vt t))))
-  fair-values (ints f) aim =
-      demands (leb 2 (r .sp)) _ _ (λ h. demands (has INT vb && has INT vt) _ _ (λ t. plain 2 INT _ zero-le))
-  fair-values (divides f) aim =
-      demands (leb 2 (r .sp)) _ _ (λ h. demands (has INT vb && has INT vt) _ _ (λ t. demands (holds (vt .bits)) _ _ (λ z. plain 2 INT _ zero-le)))
-  fair-values (floats f) aim =
-      demands (leb 2 (r .sp)) _ _ (λ h. demands (has FLOAT vb && has FLOAT vt) _ _ (λ t. plain 2 FLOAT _ (lit≤ tt)))
-  fair-values compareFloats aim =
-      demands (leb 2 (r .sp)) _ _ (λ h. demands (has FLOAT vb && has FLOAT vt) _ _ (λ t.
-      demands (not (unordered (vb .bits) (vt .bits))) _ _ (λ z. plain 2 INT _ zero-le)))
-  fair-values (one f) aim = demands (leb 1 (r .sp)) _ _ (λ h. demands (has INT vt) _ _ (λ t. plain 1 INT _ zero-le))
-  fair-values toFloat aim = demands (leb 1 (r .sp)) _ _ (λ h. demands (has INT vt) _ _ (λ t. plain 1 FLOAT _ (lit≤ tt)))
-  fair-values toInt aim =
-      demands (leb 1 (r .sp)) _ _ (λ h. demands (has FLOAT vt) _ _ (λ t. demands (hasInt (vt .bits)) _ _ (λ z. plain 1 INT _ zero-le)))
-  fair-values equal aim = demands (leb 2 (r .sp)) _ _ (λ h. plain 2 INT _ zero-le)
-  fair-values isNil aim = demands (leb 1 (r .sp)) _ _ (λ h. plain 1 INT _ zero-le)
-  fair-values pushSp aim = plain 0 MA (r .sp) (lit≤ tt)
-  fair-values popSp aim =
-      demands (leb 1 (r .sp)) _ _ (λ h. demands (has MA vt) _ _ (λ t. demands (inside (signed (vt .bits)) (r .n)) _ _ (λ i.
-      does (moved r (r .sp - 1) (memoryAddress (signed (vt .bits)))) (fair-moved p r m s going (r .sp - 1) (memoryAddress (signed (vt .bits))) (omega arith)))))
-  fair-values pushFbr aim = plain 0 MA (r .fbr) (lit≤ tt)
-  fair-values popFbr aim =
-      demands (leb 1 (r .sp)) _ _ (λ h. demands (has MA vt) _ _ (λ t. demands (inside (signed (vt .bits)) (r .n)) _ _ (λ i.
-      does (framed r (memoryAddress (signed (vt .bits)))) (fair-framed p r m s going (memoryAddress (signed (vt .bits))) (inside-below (signed (vt .bits)) (r .n) i)))))
-  fair-values link aim = does (linked r) (fair-linked p r m s going)
-  fair-values addSp aim = adds (pos (r .sp) +ℤ signed n)
-  fair-values pushInd aim =
-      demands (leb 1 (r .sp)) _ _ (λ h. demands (has MA vt) _ _ (λ t. demands (inside (signed (vt .bits)) (r .sp - 1)) _ _ (λ i.
-      pushes 1 _ (s .cells (memoryAddress (signed (vt .bits)) .0)))))
-  fair-values storeInd aim =
-      demands (leb 2 (r .sp)) _ _ (λ h. demands (has MA vb) _ _ (λ t. demands (inside (signed (vb .bits)) (r .sp - 2)) _ _ (λ i.
-      stores 2 (signed (vb .bits)) i)))
-  fair-values pushOff aim = demands (inside (frame r n) (r .sp)) _ _ (λ i. pushes 0 _ (s .cells (memoryAddress (frame r n) .0)))
-  fair-values storeOff aim =
-      demands (leb 1 (r .sp)) _ _ (λ h. demands (inside (frame r n) (r .sp - 1)) _ _ (λ i. stores 1 (frame r n) i))
-  fair-values jump aim = does (jumped r 0 (programAddress n)) (fair-jumped p r m s going 0 (programAddress n) (aim refl))
-  fair-values jumpC aim =
-      demands (leb 1 (r .sp)) _ _ (λ h. demands (has INT vt) _ _ (λ t.
-      let to : ProgramAddress = cond (holds (vt .bits)) (programAddress n) (following r) in
-      does (jumped r 1 to)
-      (fair-jumped p r m s going 1 to (either (λ (a : ProgramAddress). a .0 ≤ p .count) (holds (vt .bits)) (aim refl) (omega arith)))))
-  fair-values jumpInd aim =
-      demands (leb 1 (r .sp)) _ _ (λ h. demands (has PA vt) _ _ (λ t.
-      does (jumped r 1 (programAddress (vt .bits)))
-      (fair-jumped p r m s going 1 (programAddress (vt .bits)) (ht .pa (eqb-true (vt .tag) PA t)))))
-  fair-values jsr aim = does (called r 0 (programAddress n)) (fair-called p r m s going 0 (programAddress n) (aim refl))
-  fair-values jsrInd aim =
-      demands (leb 1 (r .sp)) _ _ (λ h. demands (has PA vt) _ _ (λ t.
-      does (called r 1 (programAddress (vt .bits)))
-      (fair-called p r m s going 1 (programAddress (vt .bits)) (ht .pa (eqb-true (vt .tag) PA t)))))
+  calls : (k : ℕ) (a : ProgramAddress) → a .0 ≤ p .count → FairBelow (called r k a)
+  calls k a h = fair-called p r m s going k a h
+
+  next : following r .0 ≤ p .count
+  next = omega arith
+
+  -- what is left of SP after popping one value, and none
+  lower : r .sp - 1 ≤ r .sp
+  lower = omega arith
+
+  whole : r .sp ≤ r .sp
+  whole = omega arith
+
+  -- "JUMPIND and JSRIND take PA."
+  returning : has PA vt ≡ true → vt .bits ≤ p .count
+  returning h = ht .pa (eqb-true (vt .tag) PA h)
+
+  fair-rows : EachRow FairRow rows
+  unfolding rows isTarget
+  fair-rows =
+      -- STOP, PUSHIMM, PUSHIMMF, DUP, SWAP
+      (λ a q l. fair-halted p r m s going) then ofInt 0 then ofFloat 0 then (λ a q. fair-result p r m s going 0 vt ht)
+      then (λ a q l. fair-swapped p r m s going vb vt hb ht (leb-true 2 (r .sp) (q .needs)))
+      -- ADD, SUB
+      then (λ a q. fair-result p r m s going 2 _ (summed (p .count) _ vb vt (q .takes)))
+      then (λ a q. fair-result p r m s going 2 _ (summed (p .count) _ vb vt (q .takes)))
+      -- TIMES, DIV, MOD; ADDF to DIVF; AND to XOR, NOT
+      then ofInt 2 then ofInt 2 then ofInt 2 then ofFloat 2 then ofFloat 2 then ofFloat 2 then ofFloat 2
+      then ofInt 2 then ofInt 2 then ofInt 2 then ofInt 2 then ofInt 2 then ofInt 1
+      -- BITAND to BITXOR, BITNOT; CMP, CMPF, GREATER, LESS, EQUAL; ISNIL, ISPOS, ISNEG
+      then ofInt 2 then ofInt 2 then ofInt 2 then ofInt 2 then ofInt 2 then ofInt 1
+      then ofInt 2 then ofInt 2 then ofInt 2 then ofInt 2 then ofInt 2 then ofInt 1 then ofInt 1 then ofInt 1
+      -- PUSHSP, POPSP, PUSHFBR, POPFBR, LINK, ADDSP
+      then ofMa 0 then (λ a q. fair-moved p r m s going (r .sp - 1) (memoryAddress (signed (vt .bits))) lower)
+      then ofMa 0 then (λ a q. fair-framed p r m s going (memoryAddress (signed (vt .bits))) (inside-below (signed (vt .bits)) (r .n) (q .reaches)))
+      then (λ a q. fair-linked p r m s going)
+      then (λ a q. fair-moved p r m s going (r .sp) (memoryAddress (pos (r .sp) +ℤ signed n)) whole)
+      -- PUSHIND, STOREIND, PUSHOFF, STOREOFF
+      then copy 1 _ then (λ a q. stores 2 (signed (vb .bits)) (q .reaches)) then copy 0 _ then (λ a q. stores 1 (frame r n) (q .reaches))
+      -- JUMP, JUMPC, JUMPIND, JSR, JSRIND
+      then (λ a q. jumps 0 (programAddress n) (a refl))
+      then (λ a q. jumps 1 _ (either (λ (x : ProgramAddress). x .0 ≤ p .count) (holds (vt .bits)) (a refl) next))
+      then (λ a q. jumps 1 (programAddress (vt .bits)) (returning (q .takes)))
+      then (λ a q. calls 0 (programAddress n) (a refl))
+      then (λ a q. calls 1 (programAddress (vt .bits)) (returning (q .takes)))
+      -- PUSHIMMPA, ITOF, FTOI
+      then (λ a q. fair-result p r m s going 0 (pa n) (record { tag = lit≤ tt; pa = λ t. a refl })) then ofFloat 1 then ofInt 1
+      then end
 
 -- PC is below the program's length where a step is accepted
 pub going-below : (p : Program) (r : Registers) (m : Memory) (e : Effect) → Sound p r m → Going p r m e → r .pc < p .count
@@ -361,14 +310,20 @@ going-below p r m e s g = ⊎-elim (λ q. absurd (g .inside q)) (λ h. h) (eq-or
 
 -- the instruction at a place that can be assembled
 pub fair-place : (p : Program) (r : Registers) (m : Memory) (s : Sound p r m) (going : r .pc < p .count) (place : ℕ) (e : Effect)
-    → soundPlace (p .count) place ≡ true → decideAt r m place ≡ Does e → e .sp < r .n → Fair p r e
-unfolding decideAt decide
+    → soundPlace (p .count) place ≡ true → decideAt r (m .cells) place ≡ Does e → e .sp < r .n → Fair p r e
+unfolding decideAt decide kindOf actionOf
 fair-place p r m s going place e h q l =
-    fair-values p r m s going (operandOf place) (cellAt m (record { 0 = r .sp - 2 })) (cellAt m (record { 0 = r .sp - 1 }))
-    (s .cells (r .sp - 2)) (s .cells (r .sp - 1)) (actionOf (codeOf place)) (place-aims (p .count) place h) .meets e q l
+    let vb = cellAt (m .cells) (record { 0 = r .sp - 2 }) in
+    let vt = cellAt (m .cells) (record { 0 = r .sp - 1 }) in
+    let d = values-does r (m .cells) (operandOf place) vb vt (actionOf (codeOf place)) e q in
+    let hb = s .cells (r .sp - 2) in
+    let ht = s .cells (r .sp - 1) in
+    subst (λ (x : Effect). x .sp < r .n → Fair p r x) (d .1)
+    (at-code (FairRow p r m s going (operandOf place) vb vt hb ht) (fair-rows p r m s going (operandOf place) vb vt hb ht) (codeOf place)
+    (place-aims (p .count) place h) (d .0)) l
 
 -- every instruction's effect is fair
-pub fair-judged : (p : Program) (r : Registers) (m : Memory) (e : Effect) → sound p r m ≡ true → judged p r m ≡ Does e → Fair p r e
+pub fair-judged : (p : Program) (r : Registers) (m : Memory) (e : Effect) → sound p r m ≡ true → judged p r (m .cells) ≡ Does e → Fair p r e
 fair-judged p r m e h q =
     let s : Sound p r m = sound-facts p r m h in
     let g : Going p r m e = judged-going p r m e q in

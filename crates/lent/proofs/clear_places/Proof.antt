@@ -1,16 +1,16 @@
--- `state::clear` meets its contract. The loop's invariant: the places passed are zero. Assumes nothing.
+-- `clear_places` meets its contract. The loop's invariant: the places passed are zero. Assumes nothing.
 use Prim.Native.Nat.{_-_}
 use borrow.Author.Needs.{needs}
 use lib.ListN.{length}
 use Rattle.rules.proofs.Stored.{Cleared, cleared-none, cleared-more, cleared-all}
-use Rattle.state.proofs.clear.Statement.{statement}
-use Rattle.state.proofs.clear.Tie as tie
+use Rattle.lent.proofs.clear_places.Statement.{statement}
+use Rattle.lent.proofs.clear_places.Tie as tie
 
 abbrev Inv-loop : tie.InvT-loop
-Inv-loop places₀ place₀ places place = Cleared places₀ places place
+Inv-loop places₀ i₀ places i = Cleared places₀ places i
 
 abbrev μ-loop : tie.MeasureT-loop
-μ-loop places₀ place₀ places place = length places₀ - place
+μ-loop places₀ i₀ places i = length places₀ - i
 
 loop-holds : tie.Need-loop-holds Inv-loop μ-loop
 loop-holds c = cleared-none _
@@ -21,8 +21,8 @@ mul-places c = search needs
 slice-write-places : tie.Need-slice-write-places Inv-loop μ-loop
 slice-write-places c = search needs
 
-add-place : tie.Need-add-place Inv-loop μ-loop
-add-place c = search needs
+add-i : tie.Need-add-i Inv-loop μ-loop
+add-i c = search needs
 
 loop-less : tie.Need-loop-less Inv-loop μ-loop
 loop-less c = search needs
@@ -36,17 +36,7 @@ same-length c = search needs
 returns : tie.Need-returns Inv-loop μ-loop
 returns c = cleared-all _ _ _ (c .before .loop .inv) (c .loop-test .left)
 
-pub clear-spec : {M : Type 1} → statement M
-clear-spec =
+pub clear-places-spec : {M : Type 1} → statement M
+clear-places-spec =
     tie.close
-    (tie.spec
-    Inv-loop
-    μ-loop
-    loop-holds
-    mul-places
-    slice-write-places
-    add-place
-    loop-less
-    loop-again
-    same-length
-    returns)
+    (tie.spec Inv-loop μ-loop loop-holds mul-places slice-write-places add-i loop-less loop-again same-length returns)

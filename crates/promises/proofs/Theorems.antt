@@ -1,0 +1,77 @@
+-- The end theorems: each line names those that show the sentence above it, and is refused where one of them is gone. What a theorem says stands with it, in
+-- the file that the line names, over the definitions that the contracts of the calls cite. Assumes nothing.
+
+-- ---- "For each input, refusals included, it determines the answer and the final bytes of every lent slice; that no second outcome satisfies it is proved"
+
+-- of a contract that is an equation, or two
+use Rattle.promises.proofs.Unique.{only, only-both}
+-- of `next_token`, whose contract is a relation
+use Rattle.tokens.proofs.Unique.{next-unique}
+-- ---- Demand 2: "Assembling, listing, packing, unpacking, limited runs and every single step equal the published SaM 2 design as the rules condense it: numbers, tags, registers and refusals."
+
+-- "The twelve P examples are proved against the definitions by a single statement over a single list"
+use Rattle.rules.specs.Examples.{twelve}
+-- "Errors we have seen", and the machines that demand 2 shuts out
+use Rattle.rules.specs.Errors.{no-errors}
+-- "the sum, difference and product are taken modulo 2^32"
+use Rattle.word.proofs.Natural.{sum-modulo, difference-modulo, times-natural}
+-- "DIV rounds toward zero; MOD has the dividend's sign": quotient and remainder make the dividend again, and what is left is smaller than the divisor
+use Rattle.word.proofs.Natural.{divides-natural, divides-back, remainder-sign, remainder-small}
+-- "−2^31 by −1 gives −2^31 and 0"
+use Rattle.word.proofs.Natural.{lowest-quotient, lowest-remainder}
+-- "BITNAND is BITAND then BITNOT; BITNOR likewise.": each bit by itself
+use Rattle.word.proofs.Bitwise.{bitAnd-bits, bitOr-bits, bitXor-bits, bitNand-bits, bitNor-bits, bitNot-bits}
+-- "each is rounded once, to binary32 (IEEE 754, nearest, ties to even)", to the one value that is nearest
+use Rattle.nearest.proofs.Cells.{sum-rounded, difference-rounded, product-rounded, quotient-rounded}
+use Rattle.nearest.proofs.Unique.{round-rounded, one-nearest}
+-- a quotient by zero: an infinity, and "A NaN result is #7FC00000."
+use Rattle.nearest.proofs.Cells.{quotient-by-zero, zero-by-zero}
+-- "nearness and order are judged by cross products of whole numbers": CMPF goes by the exact values
+use Rattle.nearest.proofs.Cells.{order-exact}
+-- "Width facts on bit fields are shown once for any width.": a field, fields side by side, and the fields of a place
+use Rattle.rules.proofs.Fields.{field-split, value-field}
+use Rattle.rules.proofs.Layouts.{side-read, side-value}
+use Rattle.rules.proofs.Places.{field-is}
+-- "a run that works in its first step and only advances its count later, and a made-up step count" are shut out
+use Rattle.promises.proofs.Runs.{run-is-its-steps}
+-- "A listing assembles to its table again"
+use Rattle.promises.proofs.Listing.{listing-assembles}
+-- "and a packed image unpacks to its table again."
+use Rattle.promises.proofs.Image.{image-unpacks}
+-- ---- Demand 3: "registers, cells, tags and history equal those of a fresh reset of the same sizes followed by S minus B steps under demand 2."
+
+use Rattle.promises.proofs.Demand3.{demand3}
+-- "a fresh reset of the same sizes": resets of memories of the same sizes leave the same; and the premise is met by every sound table and all sizes within "Sizes"
+use Rattle.promises.proofs.Demand3Reset.{reset-sized, reset-ready}
+-- "Step-back restores them, sets HALT 0 and zeroes the freed places": it undoes the step before it
+use Rattle.rules.proofs.Inverse.{inverse}
+-- ---- Request a: "Every assembler refusal gives line and column besides, both from 1; a column counts bytes since the last LF."
+
+use Rattle.promises.proofs.Refusals.{refusal-placed}
+use Rattle.promises.proofs.Lines.{one-position}
+use Rattle.rules.specs.Faults.{told}
+-- ---- Request b: "EQUAL of two FLOATs shall follow IEEE 754 comparison: both zeros equal, a NaN equal to nothing. ISNIL of a FLOAT is 1 for both zeros."
+
+use Rattle.nearest.proofs.Cells.{equal-exact}
+use Rattle.nearest.proofs.Equal.{equal-by-bits, nil-by-bits}
+use Rattle.rules.specs.Equalities.{all-equalities}
+-- ---- Request d: "ADD and SUB on MA and INT shall be refused when the exact result .. is not within −2^31 to 2^31−1."
+
+use Rattle.promises.proofs.Addresses.{add-exact, sub-exact}
+use Rattle.rules.specs.Sums.{all-sums}
+-- ---- Request e: "It is read as the binary32 nearest the exact decimal, ties to even. .. ITOF (code 50) rounds an INT the same way. FTOI (code 51) cuts toward zero."
+
+-- "Nearest rounding is shown once for both uses."
+use Rattle.nearest.proofs.Conversions.{nearest-rounded, decimal-rounded, int-rounded, cut-exact}
+use Rattle.rules.specs.Conversions.{all-conversions, all-told}
+-- ---- Request f: "INT is tenths of a second; FLOAT is seconds, taken as the largest whole tenth not above the exact ten times that number. The result is held between 10 and 300 tenths"
+
+use Rattle.promises.proofs.Tenths.{tenths-largest}
+use Rattle.promises.proofs.Dwells.{dwell-held}
+-- "a technician tries one, then steps it back": the board reads what a fresh run leaves, and a trial that is taken back leaves it alone
+use Rattle.promises.proofs.Dwells.{dwell-afresh, trial-taken-back}
+use Rattle.rules.specs.Doors.{all-read}
+-- ---- Request g: "How many steps can I take back?" `demand3` has the kept number, and so many step-backs are accepted
+
+use Rattle.promises.proofs.TakesBack.{takes-back}
+use Rattle.rules.specs.KeptNumbers.{all-kept}

@@ -1,0 +1,76 @@
+-- Calls for C that are lent a `told` or registers of another length, beside what else they are refused for: worked by hand from document 01's order of
+-- refusals and its sentence on refused writers, as one list, and the one statement that each holds; antt computes it. Assumes nothing.
+use Prim.Native.Nat.{ℕ, _+_}
+use mathlib.Core.Path.{_≡_, refl}
+use mathlib.Core.Bool.{Bool, true, _&&_}
+use mathlib.Core.List.{List, [], _∷_}
+use lib.ListN.{replicate}
+use lib.Dec.{eqb}
+use Rattle.rules.specs.Lists.{text, every, same}
+use Rattle.rules.specs.Sizes.{maxProgram, maxHistory, maxLimit, listingSize, imageSize}
+use Rattle.rules.specs.Table.{program}
+use Rattle.rules.specs.State.{Memory, memory}
+use Rattle.rules.specs.Examples.{programOf, holds}
+use Rattle.sam_c.specs.Calls.{Filled, Moved, Walked, ofLength, assembleCall, listCall, packCall, unpackCall, resetCall, runCall}
+
+-- what stood in every lent place before
+abbrev old : ℕ → List ℕ
+old n = replicate n 7
+
+abbrev zeros : ℕ → List ℕ
+zeros n = replicate n 0
+
+-- 31, what is told left as it was, and that output
+abbrev untold31 : Filled → List ℕ → List ℕ → Bool
+untold31 f told output = eqb (f .number) 31 && same (f .told) told && same (f .output) output
+
+-- that number, the registers left as they were, and cells and history too
+abbrev stays : Moved → ℕ → List ℕ → Memory → Bool
+stays c number registers m =
+    eqb (c .number) number
+    && same (c .registers) registers
+    && same (c .memory .cells .bits) (m .cells .bits)
+    && same (c .memory .cells .tags) (m .cells .tags)
+    && same (c .memory .history) (m .history)
+
+-- a reset of a sound table with so many registers, and cells, tags and history of these lengths
+abbrev resets : (number registers bits tags history : ℕ) → Bool
+resets number registers bits tags history =
+    let m = memory (old bits) (old tags) (old history) in
+    stays (resetCall (programOf "STOP") (old registers) m) number (old registers) m
+
+-- a run with that limit, so many registers and so many values to tell, which are told as these
+abbrev runs : (number limit registers : ℕ) (told after : List ℕ) → Bool
+runs number limit registers told after =
+    let m = memory (old 2) (old 2) (old 3) in
+    let w = runCall (programOf "STOP") limit (old registers) m told in
+    stays (w .moved) number (old registers) m && same (w .told) after
+
+unfoldable pub lengths : List Bool
+lengths =
+    -- "Refused writers leave an output of wrong length untouched, zero one of right length", refused for what they tell too, and then for nothing else
+    untold31 (assembleCall (text "STOP") (old maxProgram) (old 3)) (old 3) (zeros maxProgram)
+    ∷ untold31 (assembleCall (text "FOO") (old maxProgram) (old 5)) (old 5) (zeros maxProgram)
+    ∷ untold31 (assembleCall (text "STOP") (old 2) []) [] (old 2)
+    ∷ untold31 (listCall (programOf "STOP") (old listingSize) []) [] (zeros listingSize)
+    ∷ untold31 (listCall (program [] 1) (old 3) (old 2)) (old 2) (old 3)
+    ∷ untold31 (packCall (programOf "STOP") (old imageSize) (old 2)) (old 2) (zeros imageSize)
+    ∷ untold31 (packCall (program [] 1) (old imageSize) []) [] (zeros imageSize)
+    ∷ untold31 (unpackCall [] (old maxProgram) (old 4)) (old 4) (zeros maxProgram)
+    ∷ untold31 (unpackCall [] (old 1) (old 2)) (old 2) (old 1)
+    -- "Reset: 11 before 10.": no cells, tags of another count, a history of 8,193 places; then registers of another length
+    ∷ resets 11 7 0 0 0
+    ∷ resets 11 7 2 1 0
+    ∷ resets 11 9 1 1 (maxHistory + 1)
+    ∷ resets 10 7 1 1 0
+    ∷ resets 10 0 1 1 2
+    -- "Run: 11, then 10."; what is told comes before both
+    ∷ runs 11 (maxLimit + 1) 7 (old 1) (zeros 1)
+    ∷ runs 10 maxLimit 7 (old 1) (zeros 1)
+    ∷ runs 10 0 9 (old 1) (zeros 1)
+    ∷ runs 31 (maxLimit + 1) 7 (old 2) (old 2)
+    ∷ []
+
+pub all-lengths : every lengths ≡ true
+unfolding lengths ofLength holds
+all-lengths = refl
