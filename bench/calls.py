@@ -16,6 +16,15 @@ PLACES = 1024
 TEXT_BYTES = 20480
 IMAGE_BYTES = 4866
 ASSEMBLE_TOLD = 4  # values that assemble tells: length, place, line, column
+# The calls that write an output: its length, and that of told.
+WRITERS = {
+    "assemble": (PLACES, ASSEMBLE_TOLD),
+    "unpack": (PLACES, 1),
+    "list": (TEXT_BYTES, 1),
+    "pack": (IMAGE_BYTES, 1),
+    "plain_unpack": (PLACES, 1),
+    "plain_pack": (IMAGE_BYTES, 1),
+}
 COUNTED_REFUSALS = (5, 6)  # of which the instruction is counted
 
 
@@ -63,7 +72,9 @@ class Script:
         self.dwells_after = Counter()  # (word of the call before on that machine, number) of each dwell
         self.kept_numbers = Counter()  # (word of the call that left them, word, H, U, kept number, number) of each call
         self.taken_back = Counter()  # (whether there is a history, steps) of each series all taken back; 2 is for more
-        self.register_lengths = Counter()  # (word, length, number) of each call with registers of another length
+        self.wrong_tolds = Counter()  # (word, told's length, output's length, number of the input alone) of writers
+        self.register_lengths = Counter()  # (line, number with eight, length, number) of each with another length
+        self.resets = Counter()  # (length of the registers, cells, tags, history places, number) of each reset
 
     def say(self, line):
         self.lines.append((line, None))
@@ -74,15 +85,27 @@ class Script:
         self.calls[line.split(" ", 1)[0]] += 1
         self.lines.append((line, " ".join([str(number)] + [f"{name} {word}" for name, word in parts])))
 
+    def write(self, word, writer, output, told_length):
+        """(number, told) of a call that writes an output. A told of another length is 31 before anything else and stays
+        as it is. "Refused writers leave an output of wrong length untouched, zero one of right length" """
+        size, told_due = WRITERS[word]
+        if told_length == told_due:
+            number, *told = writer(output)
+            return number, told
+        self.wrong_tolds[word, told_length, len(output), writer([0] * size)[0]] += 1
+        if len(output) == size:
+            output[:] = [0] * size
+        return 31, marked(told_length, 8)
+
     # ---- bytes to a table
 
     def assemble(self, source, places=PLACES, told_length=ASSEMBLE_TOLD):
-        table, told, number = marked(places, 8), marked(told_length, 8), 31
+        table = marked(places, 8)
+        number, told = self.write("assemble", lambda output: sam.assemble(source, output), table, told_length)
         if told_length == ASSEMBLE_TOLD:
-            number, *told = sam.assemble(source, table)
-            _, _, line, _ = told
+            _, place, line, _ = told
             self.fault_lines[number, min(line, 2)] += 1
-            self.count_decimals(source, number, told[1])
+            self.count_decimals(source, number, place)
         self.call_reading("assemble", source, table, told, number)
         return number, table, told
 
@@ -95,9 +118,8 @@ class Script:
             self.decimals[number, source[place:end].decode()] += 1
 
     def unpack(self, image, places=PLACES, told_length=1, word="unpack"):
-        table, told, number = marked(places, 8), marked(told_length, 8), 31
-        if told_length == 1:
-            number, *told = sam.unpack(image, table)
+        table = marked(places, 8)
+        number, told = self.write(word, lambda output: sam.unpack(image, output), table, told_length)
         self.call_reading(word, image, table, told, number)
         return number, table, told
 
@@ -117,12 +139,12 @@ class Script:
         return self.call_writing(word, sam.pack, program, size, told_length)
 
     def call_writing(self, name, writer, program, size, told_length):
-        output, told, number = bytearray([MARK] * size), marked(told_length, 8), 31
-        if told_length == 1:
-            number, *told = writer(program.table, program.length, output)
+        written = bytearray([MARK] * size)
+        judged = lambda output: writer(program.table, program.length, output)
+        number, told = self.write(name, judged, written, told_length)
         line = f"{name} {size} {told_length}"
-        self.call(line, number, [("told", list_word(told)), ("bytes", output_word(output))])
-        return bytes(output[: told[0]]) if number == 0 else b""
+        self.call(line, number, [("told", list_word(told)), ("bytes", output_word(written))])
+        return bytes(written[: told[0]]) if number == 0 else b""
 
 
 def in_order(registers):
@@ -149,7 +171,7 @@ class LentMachine:
 
     def registers_word(self):
         """The registers as lent: all, or another count where the case is about that."""
-        values = in_order(self.state.registers) + [0]
+        values = in_order(self.state.registers) + marked(self.registers_length, 8)
         return list_word(values[: self.registers_length])
 
     def lend(self):
@@ -178,8 +200,6 @@ class LentMachine:
             self.count_refusal(word, number)
         if self.registers_length == REGISTERS:
             self.count_kept(word, number)
-        else:
-            self.script.register_lengths[word, self.registers_length, number] += 1
         if word != "dwell":
             self.last_word = word
         self.told = told
@@ -196,40 +216,56 @@ class LentMachine:
         )
         return number
 
-    def machine_call(self, word, call):
-        """ "registers of another length are 10 and change nothing" """
-        number = call(self.program, self.state) if self.registers_length == REGISTERS else 10
-        return self.answer(word, number, [])
+    def copy(self, registers):
+        state = self.state
+        return sam.State(list(state.bits), list(state.tags), list(state.history), registers)
+
+    def made(self, line, call):
+        """(number, *told) of call(state). Registers of another length are a broken state, 10 in 10's place, and nothing
+        changes: "Run: 11, then 10. Reset: 11 before 10." Zeros stand for them, whose N is 10 wherever registers are
+        read; a reset reads none, but cannot be done."""
+        if self.registers_length == REGISTERS:
+            return call(self.state)
+        number, *told = call(self.copy(sam.Registers()))
+        number = number or 10
+        with_eight, *_ = call(self.copy(self.state.registers))
+        self.script.register_lengths[line, with_eight, self.registers_length, number] += 1
+        return number, *told
+
+    def machine_call(self, line, call):
+        number, *told = self.made(line, call)
+        return self.answer(line, number, told)
 
     def reset(self):
-        return self.machine_call("reset", sam.reset)
+        number = self.machine_call("reset", lambda state: [sam.reset(self.program, state)])
+        sizes = len(self.state.bits), len(self.state.tags), len(self.state.history)
+        self.script.resets[(self.registers_length, *sizes, number)] += 1
+        return number
 
     def step(self):
-        return self.machine_call("step", sam.step)
+        return self.machine_call("step", lambda state: [sam.step(self.program, state)])
 
     def back(self):
-        return self.machine_call("back", sam.step_back)
+        return self.machine_call("back", lambda state: [sam.step_back(self.program, state)])
 
     def telling_call(self, words, call, told_length):
-        """A call that tells one value. "A `told` of another length is 31 before anything else and changes nothing" """
+        """A call that tells one value, and writes no output: a told of another length is 31 before anything else, and
+        nothing changes."""
         if told_length != 1:
-            number, told = 31, marked(told_length, 8)
-        elif self.registers_length != REGISTERS:
-            number, told = 10, [0]
-        else:
-            number, *told = call()
-        return self.answer(f"{words} {told_length}", number, told)
+            call = lambda state: [31, *marked(told_length, 8)]
+        return self.machine_call(f"{words} {told_length}", call)
 
     def run(self, limit, told_length=1, word="run"):
-        return self.telling_call(f"{word} {limit}", lambda: sam.run(self.program, self.state, limit), told_length)
+        return self.telling_call(f"{word} {limit}", lambda state: sam.run(self.program, state, limit), told_length)
 
     def dwell(self, told_length=1):
-        return self.telling_call("dwell", self.counted_dwell, told_length)
+        number = self.telling_call("dwell", lambda state: sam.dwell(self.program, state), told_length)
+        if told_length == 1 and self.registers_length == REGISTERS:
+            self.count_dwell(number, *self.told)
+        return number
 
-    def counted_dwell(self):
-        number, tenths = sam.dwell(self.program, self.state)
+    def count_dwell(self, number, tenths):
         state, registers = self.state, self.state.registers
         cell = state.cell(0) if state.bits and state.tags else None
         self.script.dwells[registers.halt, registers.sp > 0, cell, number, tenths] += 1
         self.script.dwells_after[self.last_word, number] += 1
-        return number, tenths

@@ -4,22 +4,51 @@ from dataclasses import replace
 from itertools import chain, product
 
 import sam
-from calls import ASSEMBLE_TOLD, IMAGE_BYTES, PLACES, REGISTERS, TEXT_BYTES, LentMachine
+from calls import ASSEMBLE_TOLD, IMAGE_BYTES, PLACES, REGISTERS, TEXT_BYTES, WRITERS, LentMachine
 from dwells import ADDRESS_CELLS, FLOAT_CELLS, INTEGER_CELLS, KINDS_OF_CELLS, PLAIN_CELLS, any_cell
 from programs import CONVERSIONS, FLOAT_EDGES, FTOI_EDGES, INTEGER_EDGES, ITOF_EDGES, SUMS, TWO_FLOATS, TWO_INTEGERS
 from programs import any_integer, any_operand, any_pattern, any_program
 from sam.actions import FLOAT, INT, MA, PA
 from sam.image import CODE_WIDTH, COUNT_WIDTH, OPERAND_WIDTH
-from sam.machine import cell_place, cell_sound, step_place
+from sam.machine import RUN_LIMIT, cell_place, cell_sound, step_place
 from sam.table import KINDS, NAMES, NO_OPERAND
-from sources import any_source, corner_sources
+from sources import any_source, corner_sources, every_refusal
 
 WORD = 1 << 32
 DOUBLE_WORD = 1 << 64
-OTHER_LENGTHS = [0, REGISTERS - 2, REGISTERS - 1, REGISTERS + 1]  # of lent registers
+OTHER_LENGTHS = [0, 1, REGISTERS - 2, REGISTERS - 1, REGISTERS + 1, 2 * REGISTERS]  # of lent registers
+
+
+# ---- lengths of outputs and of told
+
+
+def other_tolds(told_due):
+    """Lengths that a told may have in place of its own."""
+    return [length for length in range(ASSEMBLE_TOLD + 2) if length != told_due]
+
+
+def wrong_tolds(word):
+    """(Length of the output, length of told) for this writer: an output of its length or of another, another told."""
+    size, told_due = WRITERS[word]
+    return list(product([0, size - 1, size, size + 1], other_tolds(told_due)))
+
+
+def any_size(chooser, size):
+    """Of an output: most often its own."""
+    return chooser.choice([size] * 30 + [0, size - 1, size + 1])
+
+
+def any_told(chooser, told_due=1):
+    return chooser.choice([told_due] * 50 + other_tolds(told_due))
 
 
 # ---- sources
+
+
+def assemble_tolds(script):
+    """Sources that are done and that are refused, each with every wrong told."""
+    for source, lengths in product(["", "PUSHIMM 40 STOP", *every_refusal()], wrong_tolds("assemble")):
+        script.assemble(source.encode(), *lengths)
 
 
 def list_again(script, table, length, size=TEXT_BYTES, told_length=1):
@@ -37,17 +66,15 @@ def text_corners(script):
         number, table, told = script.assemble(source.encode("latin-1"))
         if number == 0 and "." in source:
             list_again(script, table, told[0])
+    assemble_tolds(script)
 
 
 def text_case(chooser, script):
     """Assemble; where it is done, list and assemble again."""
-    source = any_source(chooser)
-    places = chooser.choice([PLACES] * 30 + [0, 1023, 1025])
-    told_length = chooser.choice([ASSEMBLE_TOLD] * 50 + [0, 1, 2, 3, 5])
-    number, table, told = script.assemble(source, places, told_length)
+    places, told_length = any_size(chooser, PLACES), any_told(chooser, ASSEMBLE_TOLD)
+    number, table, told = script.assemble(any_source(chooser), places, told_length)
     if number == 0:
-        size = chooser.choice([TEXT_BYTES] * 30 + [0, TEXT_BYTES - 1, TEXT_BYTES + 1])
-        list_again(script, table, told[0], size, chooser.choice([1] * 30 + [0, 2]))
+        list_again(script, table, told[0], any_size(chooser, TEXT_BYTES), any_told(chooser))
 
 
 # ---- tables and images
@@ -116,12 +143,10 @@ def packed_program(chooser):
 
 def there_and_back(chooser, script, program, pack="pack", unpack="unpack"):
     """Pack, unpack, and unpack a damaged image."""
-    size = chooser.choice([IMAGE_BYTES] * 30 + [0, IMAGE_BYTES - 1, IMAGE_BYTES + 1])
-    image = script.pack(program, size, chooser.choice([1] * 30 + [0, 2]), pack)
-    places, told_length = chooser.choice([PLACES] * 30 + [0, 1023, 1025]), chooser.choice([1] * 30 + [0, 2])
-    script.unpack(image, places, told_length, unpack)
+    image = script.pack(program, any_size(chooser, IMAGE_BYTES), any_told(chooser), pack)
+    script.unpack(image, any_size(chooser, PLACES), any_told(chooser), unpack)
     for _ in range(3):
-        script.unpack(damaged_image(chooser, image), word=unpack)
+        script.unpack(damaged_image(chooser, image), any_size(chooser, PLACES), any_told(chooser), unpack)
 
 
 def coded(code):
@@ -142,8 +167,51 @@ def every_code(script, pack="pack", unpack="unpack"):
         script.pack(program, word=pack)
 
 
+# Images that are done, then those that are 41, 42, 43, 44 and 45.
+JUDGED_IMAGES = [
+    bytes.fromhex(image)
+    for image in "0000 00408000000280 00 004080000002 FFE0 003F80 0033BE80 0001 0040800000028000".split()
+]
+
+
+def judged_programs():
+    """Tables that are done, then one for each fault that a table may have."""
+    sound = single("JUMP 1")
+    yield sam.Program([0] * PLACES, 0)
+    yield sound
+    yield coded(len(NAMES))[1]  # "a table place that cannot be assembled"
+    yield sam.Program(sound.table, PLACES + 1)
+    yield sam.Program(sound.table[:-1], sound.length)
+    yield sam.Program(sound.table + [0], sound.length)
+    yield sam.Program(sound.table[:-1] + [1], sound.length)
+
+
+def unpack_tolds(script, word="unpack"):
+    """Such images, each with every wrong told."""
+    for image, lengths in product(JUDGED_IMAGES, wrong_tolds(word)):
+        script.unpack(image, *lengths, word)
+
+
+def pack_tolds(script, word="pack"):
+    """Such tables, each with every wrong told."""
+    for program in judged_programs():
+        script.program(program)
+        for lengths in wrong_tolds(word):
+            script.pack(program, *lengths, word)
+
+
+def list_tolds(script):
+    """The same tables listed."""
+    for program in judged_programs():
+        script.program(program)
+        for lengths in wrong_tolds("list"):
+            script.list(program, *lengths)
+
+
 def image_corners(script):
     """Packed, unpacked and listed."""
+    for corners in (unpack_tolds, pack_tolds, list_tolds):
+        corners(script)
     every_code(script)
     for code in range(1 << CODE_WIDTH):
         _, program = coded(code)
@@ -155,7 +223,7 @@ def image_case(chooser, script):
     """The same table listed, packed and unpacked."""
     program = packed_program(chooser)
     script.program(program)
-    script.list(program, chooser.choice([TEXT_BYTES] * 30 + [TEXT_BYTES - 1]))
+    script.list(program, any_size(chooser, TEXT_BYTES), any_told(chooser))
     there_and_back(chooser, script, program)
 
 
@@ -217,6 +285,25 @@ def series_case(chooser, script):
         take_all_back(script, lent)
 
 
+# Cells, tags and history places of a reset: outside "Sizes" or of unequal count, and such as are allowed.
+REFUSED_SIZES = [
+    (0, 0, 0), (0, 0, 8), (1001, 1001, 0), (4, 3, 8), (4, 5, 8), (0, 4, 0), (4, 0, 0), (4, 4, 8193), (1001, 1000, 8193),
+]  # fmt: skip
+ALLOWED_SIZES = [(1, 1, 0), (4, 4, 8), (1000, 1000, 8192)]
+
+
+def marked_state(n, tags, h):
+    """Memory and registers in which every write of a reset is seen."""
+    return sam.State([7] * n, [8] * tags, [9] * h, sam.Registers(1, 2, 3, 4, 5, 6, 7, 8))
+
+
+def reset_corners(script):
+    """Registers of every length with all of these sizes, and with sound and broken tables."""
+    lengths = [*OTHER_LENGTHS, REGISTERS]
+    for program, length, sizes in product(judged_programs(), lengths, REFUSED_SIZES + ALLOWED_SIZES):
+        LentMachine(script, program, marked_state(*sizes), length).reset()
+
+
 def reset_case(chooser, script):
     """Sizes at and beyond their ends, broken tables, registers of another length."""
     n = chooser.choice([0, 1, 2, 1000, 1001])
@@ -225,8 +312,7 @@ def reset_case(chooser, script):
     program = made_program(chooser)
     if chooser.randrange(2):
         program = damaged_program(chooser, program)
-    state = sam.State([7] * n, [8] * tags, [9] * h, sam.Registers(1, 2, 3, 4, 5, 6, 7, 8))
-    lent = LentMachine(script, program, state, chooser.choice([REGISTERS] * 8 + OTHER_LENGTHS))
+    lent = LentMachine(script, program, marked_state(n, tags, h), chooser.choice([REGISTERS] * 8 + OTHER_LENGTHS))
     lent.reset()
     lent.step()
 
@@ -316,6 +402,9 @@ BREAKS = [
 ]  # fmt: skip
 
 
+END_LIMITS = [0, RUN_LIMIT, RUN_LIMIT + 1, DOUBLE_WORD - 1]  # the ends of a run's limit and what is beyond
+
+
 def any_call(chooser, lent):
     kind = chooser.randrange(6)
     if kind < 2:
@@ -324,8 +413,7 @@ def any_call(chooser, lent):
         return lent.step()
     if kind < 5:
         return lent.dwell(chooser.choice([1] * 8 + [0, 2]))
-    limit = chooser.choice([0, 1, 50, 1000000, 1000001, DOUBLE_WORD - 1]) if lent.registers_length == REGISTERS else 5
-    return lent.run(limit, chooser.choice([1] * 8 + [0, 2]))
+    return lent.run(chooser.choice([1, 50, *END_LIMITS]), chooser.choice([1] * 8 + [0, 2]))
 
 
 def broken_case(chooser, script):
@@ -386,14 +474,28 @@ def kept_corners(script):
 
 
 def length_corners(script):
-    """Each call with registers of another length, and nothing else to refuse it."""
-    for call, length in product(CALLS.values(), OTHER_LENGTHS):
-        call(LentMachine(script, single("JUMP 1"), halted((INT, 40)), length))
+    """Each call with registers of another length, on a machine where eight would be done and on a broken one, by a tag
+    above SP. A dwell is done with HALT 1, the others with HALT 0."""
+    program = single("JUMP 1")
+    for call, length, halt, tag in product(CALLS.values(), OTHER_LENGTHS, (0, 1), (INT, 4)):
+        state = counted_state(8, 1, 1, SHORT_RECORD, halt)
+        state.tags[1] = tag
+        call(LentMachine(script, program, state, length))
+
+
+def run_corners(script):
+    """Registers and told of any length, limits at the ends and beyond, sound and broken, by a tag above SP."""
+    program, lengths, tolds = single("JUMP 1"), [*OTHER_LENGTHS, REGISTERS], [1, *other_tolds(1)]
+    for word, length, limit, told_length, tag in product(("run", "plain"), lengths, END_LIMITS, tolds, (INT, 4)):
+        state = halted((INT, 40), 8, halt=0)
+        state.tags[1] = tag
+        LentMachine(script, program, state, length).run(limit, told_length, word)
 
 
 def broken_corners(script):
     kept_corners(script)
     length_corners(script)
+    run_corners(script)
 
 
 # ---- cell 0 of a halted machine
@@ -436,7 +538,7 @@ def dwell_histories(script, program):
 def dwell_lengths(script, program):
     """A told and registers of any length, also where there is another refusal."""
     lengths = [*OTHER_LENGTHS, REGISTERS]
-    for cell, halt, registers_length, told_length in product(KINDS_OF_CELLS, (0, 1, 2), lengths, (0, 1, 2, 3)):
+    for cell, halt, registers_length, told_length in product(KINDS_OF_CELLS, (0, 1, 2), lengths, [1, *other_tolds(1)]):
         LentMachine(script, program, halted(cell, halt=halt), registers_length).dwell(told_length)
 
 
@@ -612,6 +714,8 @@ def plain_single(script, program, state):
 
 
 def plain_corners(script):
+    unpack_tolds(script, "plain_unpack")
+    pack_tolds(script, "plain_pack")
     every_code(script, "plain_pack", "plain_unpack")
     for program, state in edge_states():
         plain_single(script, program, state)
@@ -649,6 +753,7 @@ def plain_case(chooser, script):
 CORNERS = {
     "text": text_corners,
     "image": image_corners,
+    "reset": reset_corners,
     "broken": broken_corners,
     "dwell": dwell_corners,
     "instruction": instruction_corners,

@@ -8,8 +8,8 @@ number of the documents was never given back, a fault of a source was never in a
 test of FLOATs that request b speaks of, a sum at the ends of 32 bits that request d speaks of or a conversion that
 request e speaks of was never made, a step or a run was never refused at such a sum or conversion, a kind of decimal or
 a code at the end of the codes was never read, a dwell that request f speaks of was never read or never refused, a kept
-number that request g speaks of was never given to a call or its steps never all taken back, or registers of another
-length were never refused.
+number that request g speaks of was never given to a call or its steps never all taken back, or a told or registers of
+another length were never given to a call that would be done or refused besides.
 """
 
 import argparse
@@ -21,12 +21,14 @@ from collections import Counter
 from itertools import permutations, product
 
 import sam
-from calls import Script
-from cases import ALLOWED_KEPT, BROKEN_KEPT, CALLS, CORNERS, FAMILIES, OTHER_LENGTHS
+from calls import REGISTERS, Script
+from cases import ALLOWED_KEPT, ALLOWED_SIZES, BROKEN_KEPT, CALLS, CORNERS, FAMILIES, OTHER_LENGTHS, REFUSED_SIZES
+from cases import DOUBLE_WORD, other_tolds, wrong_tolds
 from decimals import ALL_MARKS, ILL_FORMED, TOO_LONG
 from dwells import KINDS_OF_CELLS, LONGEST, REFUSED_CELLS, SHORTEST, first_of
 from programs import CONVERSIONS, FTOI_ENDS, GREATEST, INFINITIES, INTEGER_TIES, LEAST, MINUS_ZERO, NANS, SUMS, ZEROS
 from sam.actions import FLOAT, INT, MA, PA
+from sam.machine import RUN_LIMIT
 from sam.table import WORD
 from sources import any_source, every_refusal
 
@@ -74,6 +76,12 @@ DWELLS_AFTER = [("reset", 60), ("step", 60), ("back", 60), ("step", 0), ("run", 
 # What request g added: H, U and the kept number that a step-back of a machine made by hand leaves, refused and not.
 BROKEN_BY_BACK = [(8, 3, 0), (8, 2, 0), (8, 2, 3), (8192, 7999, 0)]
 ALLOWED_BY_BACK = [(8, 3, 1), (8, 3, 3), (8, 2, 1), (8, 2, 2), (8192, 7999, 7999)]
+# The numbers that the input of each writer is given where every length is right.
+INPUT_NUMBERS = {
+    "assemble": [0, 21, *FAULTS],
+    **dict.fromkeys(["list", "pack", "plain_pack"], [0, 10]),
+    **dict.fromkeys(["unpack", "plain_unpack"], [0, *range(41, 46)]),
+}
 TAKEN_BACK = [(False, 0), (True, 0), (True, 1), (True, 2)]  # whether there is a history, and steps; 2 is for more
 CUT = 400  # characters of a line that a difference shows
 
@@ -207,16 +215,54 @@ def kept_tests():
         yield "back", "dwell", *kept, 60
 
 
+def told_tests():
+    """(Writer, length of told, length of the output, number of the input alone): all that a wrong told comes before."""
+    for word, numbers in INPUT_NUMBERS.items():
+        for (size, told_length), number in product(wrong_tolds(word), numbers):
+            yield word, told_length, size, number
+
+
+def run_tests(word, length):
+    """(Line, number with eight registers, length, number): 10 in its place behind 31 and 11."""
+    for limit, done in [(0, 50), (RUN_LIMIT, 0)]:
+        yield f"{word} {limit} 1", done, length, 10
+        yield f"{word} {limit} 1", 10, length, 10
+    for limit in (RUN_LIMIT + 1, DOUBLE_WORD - 1):
+        yield f"{word} {limit} 1", 11, length, 11
+    for limit, told_length in product((RUN_LIMIT, RUN_LIMIT + 1), other_tolds(1)):
+        yield f"{word} {limit} {told_length}", 31, length, 31
+
+
+def length_tests():
+    """The same for every call."""
+    for length in OTHER_LENGTHS:
+        for line, done in product(("reset", "step", "back", "dwell 1"), (0, 10)):
+            yield line, done, length, 10
+        yield "reset", 11, length, 11
+        for told_length in other_tolds(1):
+            yield f"dwell {told_length}", 31, length, 31
+        for word in ("run", "plain"):
+            yield from run_tests(word, length)
+
+
+def reset_tests():
+    """(Length of the registers; cells, tags and history places; number): 11 with any registers, then 10, then done."""
+    for length in (*OTHER_LENGTHS, REGISTERS):
+        yield from ((length, *sizes, 11) for sizes in REFUSED_SIZES)
+        yield from ((length, *sizes, 10) for sizes in ALLOWED_SIZES)
+    yield from ((REGISTERS, *sizes, 0) for sizes in ALLOWED_SIZES)
+
+
 def all_met(script):
     """Whether the cases led to every number, to every fault of a source in its first line and in a later one, to every
     test of FLOATs, sum and conversion by the proved step and by the direct run, to sums and conversions refused with
-    and without a history, to every kind of decimal, to the last codes, to every dwell, and to every kept number."""
+    and without a history, to every kind of decimal, to the last codes, to every dwell, to every kept number, and to a
+    told and registers of another length wherever they are refused."""
     lines = product(FAULTS, (1, 2))
     tests = [(word, *test) for word in ("step", "plain") for test in [*FLOAT_TESTS, *sum_tests(), *CONVERSION_TESTS]]
     refused = [*[(name, 6) for name in SUMS], ("FTOI", 5)]
     steps = [(word, *of, h) for word, of, h in product(("step", "run", "plain"), refused, (False, True))]
     codes = [(word, *code) for word, code in product(("unpack", "plain_unpack"), LAST_CODES)]
-    lengths = [(word, length, 10) for word, length in product(CALLS, OTHER_LENGTHS)]
     complete = [
         all_in(script.numbers, ALL_NUMBERS, "never given back"),
         all_in(script.fault_lines, lines, "faults never in the first line (1) or never in a later one (2)"),
@@ -228,7 +274,9 @@ def all_met(script):
         all_in(script.dwells_after, DWELLS_AFTER, "dwells never given back after such a call"),
         all_in(script.kept_numbers, kept_tests(), "kept numbers (left by, call, H, U, kept, number) never met"),
         all_in(script.taken_back, TAKEN_BACK, "series (any history, steps; 2 for more) never taken back to the reset"),
-        all_in(script.register_lengths, lengths, "registers of such a length never refused"),
+        all_in(script.wrong_tolds, told_tests(), "writers (told's, output's length, number of input) never refused"),
+        all_in(script.register_lengths, length_tests(), "calls (number with eight, length, number) never refused"),
+        all_in(script.resets, reset_tests(), "resets (registers, cells, tags, history, number) never made"),
     ]
     return all(complete)
 

@@ -263,8 +263,8 @@ uint32_t plain_run(const uint64_t *table, size_t places, uint64_t length, uint64
                    size_t h, uint64_t *told, size_t told_len) {
     if (told_len != 1) return 31;
     told[0] = 0;
-    if (registers_len != SAM_REGISTERS) return 10;
     if (limit > SAM_RUN_LIMIT) return 11;
+    if (registers_len != SAM_REGISTERS) return 10;
     struct machine m = {
         table, bits, tags, history, length, registers[SAM_N], registers[SAM_H_PLACES], registers[SAM_PC],
         registers[SAM_SP], registers[SAM_FBR], registers[SAM_HALT], registers[SAM_U], registers[SAM_KEPT],

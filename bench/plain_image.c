@@ -53,10 +53,10 @@ static size_t write_image(const uint64_t *table, uint64_t length, uint8_t *image
 
 uint32_t plain_pack(const uint64_t *table, size_t places, uint64_t length, uint8_t *image, size_t image_len,
                     uint64_t *told, size_t told_len) {
-    if (told_len != 1) return 31;
-    told[0] = 0;
+    if (told_len == 1) told[0] = 0;
     if (image_len != SAM_IMAGE_BYTES) return 31;
     memset(image, 0, image_len);
+    if (told_len != 1) return 31; /* a refused writer too, which zeroes an output of right length */
     if (!table_sound(table, places, length)) return 10;
     told[0] = write_image(table, length, image);
     return 0;
@@ -107,10 +107,10 @@ static uint32_t read_image(const uint8_t *image, size_t image_len, uint64_t *tab
 uint32_t plain_unpack(const uint8_t *image, size_t image_len, uint64_t *table, size_t places, uint64_t *told,
                       size_t told_len) {
     uint64_t length;
-    if (told_len != 1) return 31;
-    told[0] = 0;
+    if (told_len == 1) told[0] = 0;
     if (places != SAM_TABLE_PLACES) return 31;
     memset(table, 0, places * sizeof *table);
+    if (told_len != 1) return 31; /* a refused writer too, which zeroes an output of right length */
     uint32_t number = read_image(image, image_len, table, &length);
     if (number == 0) told[0] = length;
     else memset(table, 0, places * sizeof *table);

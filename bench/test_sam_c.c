@@ -40,12 +40,14 @@ static uint8_t tags[SAM_CELL_LIMIT + 1];
 static uint64_t history[SAM_HISTORY_LIMIT + 1];
 static size_t n, h;
 
+enum { MARK = 77 }; /* in lent memory, where a write is to be seen */
+
 static void mark_told(void) {
-    for (size_t i = 0; i <= SAM_ASSEMBLE_TOLD; i++) told[i] = 77;
+    for (size_t i = 0; i <= SAM_ASSEMBLE_TOLD; i++) told[i] = MARK;
 }
 
 static void check_told_marked(size_t from) {
-    for (size_t i = from; i <= SAM_ASSEMBLE_TOLD; i++) check("  told unchanged", 77, told[i]);
+    for (size_t i = from; i <= SAM_ASSEMBLE_TOLD; i++) check("  told unchanged", MARK, told[i]);
 }
 
 static void check_told(uint64_t made, uint64_t place, uint64_t line, uint64_t column) {
@@ -1000,50 +1002,173 @@ static void test_counts_by_hand(void) {
 
 /* ---- told and registers of another length */
 
-static uint32_t run_with(size_t registers_len, size_t told_len) {
-    return sam_run(table, SAM_TABLE_PLACES, length, 9, registers, registers_len, bits, n, tags, n, history, h, told,
+/* What the writers below are given besides the program in `table`, and where they write. */
+static const uint8_t stop[] = {'S', 'T', 'O', 'P'}, packed_stop[] = {0x00, 0x20, 0x00};
+static const uint8_t over_limit[SAM_SOURCE_LIMIT + 1]; /* of a source */
+static uint64_t made_table[SAM_TABLE_PLACES + 1];
+
+static uint32_t assemble_done(size_t places, size_t told_len) {
+    return sam_assemble(stop, 4, made_table, places, told, told_len);
+}
+
+static uint32_t assemble_fault(size_t places, size_t told_len) {
+    return sam_assemble(stop, 3, made_table, places, told, told_len);
+}
+
+static uint32_t assemble_too_long(size_t places, size_t told_len) {
+    return sam_assemble(over_limit, sizeof over_limit, made_table, places, told, told_len);
+}
+
+static uint32_t unpack_done(size_t places, size_t told_len) {
+    return sam_unpack(packed_stop, 3, made_table, places, told, told_len);
+}
+
+static uint32_t unpack_early(size_t places, size_t told_len) {
+    return sam_unpack(packed_stop, 2, made_table, places, told, told_len);
+}
+
+static uint32_t list_done(size_t text_len, size_t told_len) {
+    return sam_list(table, SAM_TABLE_PLACES, length, text, text_len, told, told_len);
+}
+
+static uint32_t list_broken(size_t text_len, size_t told_len) {
+    return sam_list(table, SAM_TABLE_PLACES - 1, length, text, text_len, told, told_len);
+}
+
+static uint32_t pack_done(size_t image_len, size_t told_len) {
+    return sam_pack(table, SAM_TABLE_PLACES, length, image, image_len, told, told_len);
+}
+
+static uint32_t pack_broken(size_t image_len, size_t told_len) {
+    return sam_pack(table, SAM_TABLE_PLACES - 1, length, image, image_len, told, told_len);
+}
+
+/* A call, its number where all lengths are right, these lengths, and its output with the bytes of an element. */
+static const struct writer {
+    const char *name;
+    uint32_t (*call)(size_t output_len, size_t told_len);
+    uint32_t number;
+    size_t output_len, told_len;
+    void *output;
+    size_t width;
+} writers[] = {
+    {"assemble", assemble_done, 0, SAM_TABLE_PLACES, SAM_ASSEMBLE_TOLD, made_table, sizeof made_table[0]},
+    {"assemble a fault", assemble_fault, 23, SAM_TABLE_PLACES, SAM_ASSEMBLE_TOLD, made_table, sizeof made_table[0]},
+    {"assemble too long", assemble_too_long, 21, SAM_TABLE_PLACES, SAM_ASSEMBLE_TOLD, made_table, sizeof made_table[0]},
+    {"unpack", unpack_done, 0, SAM_TABLE_PLACES, 1, made_table, sizeof made_table[0]},
+    {"unpack an image that ends early", unpack_early, 41, SAM_TABLE_PLACES, 1, made_table, sizeof made_table[0]},
+    {"list", list_done, 0, SAM_TEXT_BYTES, 1, text, sizeof text[0]},
+    {"list a broken table", list_broken, 10, SAM_TEXT_BYTES, 1, text, sizeof text[0]},
+    {"pack", pack_done, 0, SAM_IMAGE_BYTES, 1, image, sizeof image[0]},
+    {"pack a broken table", pack_broken, 10, SAM_IMAGE_BYTES, 1, image, sizeof image[0]},
+};
+
+/* How many of these bytes have another value. */
+static uint64_t others(const uint8_t *bytes, size_t count, uint8_t value) {
+    uint64_t found = 0;
+    for (size_t i = 0; i < count; i++) found += bytes[i] != value;
+    return found;
+}
+
+/* 31 for a told of this length; an output of right length is zero then, and one of another length as it was. */
+static void check_wrong_told(const struct writer *writer, size_t output_len, size_t told_len) {
+    const uint8_t *output = writer->output;
+    size_t size = writer->output_len * writer->width, zeroed = output_len == writer->output_len ? size : 0;
+    memset(writer->output, MARK, size + writer->width);
+    mark_told();
+    check("  a told of another length", 31, writer->call(output_len, told_len));
+    check_told_marked(0);
+    check("  bytes not zero where its length is right", 0, others(output, zeroed, 0));
+    check("  bytes changed elsewhere", 0, others(output + zeroed, size + writer->width - zeroed, MARK));
+}
+
+/* "Refused writers leave an output of wrong length untouched, zero one of right length" */
+static void test_told_of_writers(void) {
+    begin("PUSHIMM 1 STOP", 4, 8);
+    for (size_t i = 0; i < sizeof writers / sizeof writers[0]; i++) {
+        size_t right = writers[i].output_len, lengths[] = {0, right - 1, right, right + 1};
+        puts(writers[i].name);
+        for (size_t told_len = 0; told_len <= SAM_ASSEMBLE_TOLD + 1; told_len++) {
+            if (told_len == writers[i].told_len) continue;
+            for (size_t j = 0; j < sizeof lengths / sizeof lengths[0]; j++) {
+                check_wrong_told(&writers[i], lengths[j], told_len);
+            }
+        }
+        check("  all of the right length", writers[i].number, writers[i].call(right, writers[i].told_len));
+    }
+}
+
+static uint32_t run_with(uint64_t limit, size_t registers_len, size_t told_len) {
+    return sam_run(table, SAM_TABLE_PLACES, length, limit, registers, registers_len, bits, n, tags, n, history, h, told,
                    told_len);
 }
 
-static void test_lengths(void) {
-    static const uint8_t too_long[SAM_SOURCE_LIMIT + 1];
-    const uint8_t *stop = (const uint8_t *)"STOP";
-    puts("told of another length changes nothing");
-    begin("PUSHIMM 1 STOP", 4, 8);
-    mark_told();
-    for (size_t told_len = 0; told_len <= SAM_ASSEMBLE_TOLD + 1; told_len++) {
-        if (told_len == SAM_ASSEMBLE_TOLD) continue;
-        check("  assemble", 31, sam_assemble(stop, 4, table, SAM_TABLE_PLACES, told, told_len));
-        check("  a refused source", 31, sam_assemble(stop, 3, table, SAM_TABLE_PLACES, told, told_len));
-        check("  65,537 bytes", 31, sam_assemble(too_long, sizeof too_long, table, SAM_TABLE_PLACES, told, told_len));
-    }
-    check("  list", 31, sam_list(table, SAM_TABLE_PLACES, length, text, SAM_TEXT_BYTES, told, 0));
-    check("  pack", 31, sam_pack(table, SAM_TABLE_PLACES, length, image, SAM_IMAGE_BYTES, told, 2));
-    check("  unpack", 31, sam_unpack(stop, 4, table, SAM_TABLE_PLACES, told, 2));
-    check("  run", 31, run_with(SAM_REGISTERS, 2));
-    check_told_marked(0);
-    check("  table[0]", UINT64_C(1) << 32 | 1, table[0]);
-}
+static const uint64_t limits[] = {0, 9, SAM_RUN_LIMIT, SAM_RUN_LIMIT + 1, UINT64_MAX};
 
-/* Of the right length each would be done. */
-static void test_lengths_of_registers(void) {
-    begin("PUSHIMM 1 STOP", 4, 8);
-    check("  step", 0, step());
-    registers[SAM_REGISTERS] = 77;
-    remember();
-    for (size_t len = 0; len <= SAM_REGISTERS + 1; len++) {
-        if (len == SAM_REGISTERS) continue;
-        printf("%zu registers\n", len);
-        check("  reset", 10, sam_reset(table, SAM_TABLE_PLACES, length, registers, len, bits, n, tags, n, history, h));
-        check("  step", 10, sam_step(table, SAM_TABLE_PLACES, length, registers, len, bits, n, tags, n, history, h));
-        check("  back", 10,
-              sam_step_back(table, SAM_TABLE_PLACES, length, registers, len, bits, n, tags, n, history, h));
-        mark_told();
-        check("  run", 10, run_with(len, 1));
+/* 31 before 11, and 11 before 10. */
+static void check_run_with(uint64_t limit, size_t registers_len, size_t told_len) {
+    mark_told();
+    if (told_len != 1) {
+        check("  31 of a run", 31, run_with(limit, registers_len, told_len));
+        check_told_marked(0);
+    } else {
+        check("  11 or 10 of a run", limit > SAM_RUN_LIMIT ? 11 : 10, run_with(limit, registers_len, told_len));
         check("  steps", 0, told[0]);
         check_told_marked(1);
+    }
+}
+
+/* A told of every length with these registers, where not all are of the right length. */
+static void check_runs_with(size_t registers_len) {
+    for (size_t i = 0; i < sizeof limits / sizeof limits[0]; i++) {
+        for (size_t told_len = 0; told_len <= SAM_ASSEMBLE_TOLD + 1; told_len++) {
+            if (registers_len != SAM_REGISTERS || told_len != 1) check_run_with(limits[i], registers_len, told_len);
+        }
+    }
+}
+
+static uint32_t reset_with(size_t places, size_t registers_len, size_t cells, size_t tag_count, size_t history_len) {
+    return sam_reset(table, places, length, registers, registers_len, bits, cells, tags, tag_count, history,
+                     history_len);
+}
+
+/* Cells, tags and history places, and the number of a reset that has them, but not eight registers. */
+static const struct { size_t cells, tag_count, history_len; uint32_t number; } reset_sizes[] = {
+    {0, 0, 0, 11}, {0, 0, 8, 11}, {1001, 1001, 0, 11}, {4, 3, 8, 11}, {4, 5, 8, 11}, {4, 4, 8193, 11},
+    {1, 1, 0, 10}, {4, 4, 8, 10}, {1000, 1000, 8192, 10},
+};
+
+/* With a table, and without one, which is 10 too. */
+static void check_resets_with(size_t registers_len) {
+    for (size_t i = 0; i < sizeof reset_sizes / sizeof reset_sizes[0]; i++) {
+        for (size_t places = 0; places <= SAM_TABLE_PLACES; places += SAM_TABLE_PLACES) {
+            check("  11 or 10 of a reset", reset_sizes[i].number,
+                  reset_with(places, registers_len, reset_sizes[i].cells, reset_sizes[i].tag_count,
+                             reset_sizes[i].history_len));
+        }
+    }
+}
+
+static void check_steps_with(size_t len) {
+    check("  step", 10, sam_step(table, SAM_TABLE_PLACES, length, registers, len, bits, n, tags, n, history, h));
+    check("  back", 10, sam_step_back(table, SAM_TABLE_PLACES, length, registers, len, bits, n, tags, n, history, h));
+}
+
+/* With eight registers, a told of one and nothing beyond its sizes each call would be done. */
+static void test_lengths_of_machine_calls(void) {
+    begin("PUSHIMMF 2.5 STOP", 4, 8);
+    check("  step", 0, step());
+    registers[SAM_REGISTERS] = MARK;
+    remember();
+    for (size_t len = 0; len <= SAM_REGISTERS + 1; len++) {
+        printf("%zu registers\n", len);
+        check_runs_with(len);
+        if (len != SAM_REGISTERS) {
+            check_resets_with(len);
+            check_steps_with(len);
+        }
         check_unchanged("  nothing changed");
-        check("  the ninth", 77, registers[SAM_REGISTERS]);
+        check("  the ninth", MARK, registers[SAM_REGISTERS]);
     }
     check("  step", 0, step());
 }
@@ -1085,10 +1210,6 @@ static void test_steps(void) {
     check("  steps", 0, told[0]);
 }
 
-static uint32_t reset_with(size_t places, size_t cells, size_t tag_count) {
-    return sam_reset(table, places, length, registers, SAM_REGISTERS, bits, cells, tags, tag_count, history, 0);
-}
-
 static void test_reset(void) {
     puts("reset: sizes");
     check("  assemble", 0, assemble("STOP"));
@@ -1097,12 +1218,12 @@ static void test_reset(void) {
     check("  1,001 cells", 11, reset(1001, 0));
     check("  8,193 places", 11, reset(1, 8193));
     for (size_t i = 0; i < SAM_REGISTERS; i++) registers[i] = 9;
-    check("  one tag too few", 11, reset_with(SAM_TABLE_PLACES, 4, 3));
+    check("  one tag too few", 11, reset_with(SAM_TABLE_PLACES, SAM_REGISTERS, 4, 3, 0));
     for (size_t i = 0; i < SAM_REGISTERS; i++) check("  zero", 0, registers[i]);
     check("  cell 0", 5, bits[0]);
-    check("  11 before 10", 11, reset_with(0, 0, 0));
+    check("  11 before 10", 11, reset_with(0, SAM_REGISTERS, 0, 0, 0));
     registers[SAM_KEPT] = 9;
-    check("  no table", 10, reset_with(0, 4, 4));
+    check("  no table", 10, reset_with(0, SAM_REGISTERS, 4, 4, 0));
     check("  kept", 0, registers[SAM_KEPT]);
     registers[SAM_KEPT] = 9;
     check("  largest", 0, reset(1000, 8192));
@@ -1191,7 +1312,6 @@ static const char *labels(unsigned count, const char *gap) {
 static void test_without_line(void) {
     puts("31, 21 and done: place 0, line 0, column 0");
     mark_told();
-    const uint8_t *stop = (const uint8_t *)"STOP";
     check("  table of 1,023 places", 31, sam_assemble(stop, 4, table, 1023, told, SAM_ASSEMBLE_TOLD));
     check_told(0, 0, 0, 0);
     memset(large, '\n', sizeof large);
@@ -1355,8 +1475,8 @@ int main(void) {
     test_kept_of_series();
     test_broken_counts();
     test_counts_by_hand();
-    test_lengths();
-    test_lengths_of_registers();
+    test_told_of_writers();
+    test_lengths_of_machine_calls();
     test_steps();
     test_reset();
     test_broken();
