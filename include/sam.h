@@ -32,8 +32,12 @@
  * count is 0; memory lent to be written overlaps no other memory of the call.
  *
  * `told` is lent for what a call tells besides its number. A `told` of another length than the call's is 31 before
- * anything else and changes nothing. Where a call is refused, the values told are zero, save the place, the line and
- * the column that assemble tells and the steps that a run made before a step was refused.
+ * anything else, and stays as it is. Where a call is refused otherwise, the values told are zero, save the place, the
+ * line and the column that assemble tells and the steps that a run made before a step was refused.
+ *
+ * Assemble, list, pack and unpack write an output: a table, a text, an image. Refused, for a `told` of another length
+ * too, they leave an output of wrong length untouched and zero one of right length. A refused step, step-back, reset or
+ * run-entry changes no cell, tag or history place.
  */
 #ifndef SAM_H
 #define SAM_H
@@ -72,8 +76,9 @@ enum {
     SAM_DWELL_STACK = 512
 };
 
-/* The registers are a lent slice of eight. Registers of another length are 10 and change nothing. SAM_KEPT is how many
- * steps can be taken back: after a reset the steps accepted less the step-backs accepted, and 0 where H is 0. */
+/* The registers are a lent slice of eight. Registers of another length are a 10 in 10's place, so after 11 at a reset and
+ * a run, and stay as they are. SAM_KEPT is how many steps can be taken back: after a reset the steps accepted less the
+ * step-backs accepted, and 0 where H is 0. */
 enum { SAM_N, SAM_H_PLACES, SAM_PC, SAM_SP, SAM_FBR, SAM_HALT, SAM_U, SAM_KEPT, SAM_REGISTERS };
 
 /* The tag of a cell. */
@@ -84,7 +89,7 @@ enum { SAM_INT, SAM_FLOAT, SAM_MA, SAM_PA };
 enum { SAM_LENGTH, SAM_PLACE, SAM_LINE, SAM_COLUMN, SAM_ASSEMBLE_TOLD };
 
 /* Assembles a source into a table of 1,024 places. told[4]: length, place, line, column; the last three are 0 where it
- * is done, and with 31 and 21. A refused source leaves a table of 1,024 places zero. */
+ * is done, and with 31 for the table and 21. */
 uint32_t sam_assemble(const uint8_t *source, size_t source_len, uint64_t *table, size_t places, uint64_t *told,
                       size_t told_len);
 
@@ -98,14 +103,13 @@ uint32_t sam_list(const uint64_t *table, size_t places, uint64_t length, uint8_t
 uint32_t sam_pack(const uint64_t *table, size_t places, uint64_t length, uint8_t *image, size_t image_len,
                   uint64_t *told, size_t told_len);
 
-/* Unpacks an image into a table of 1,024 places. told[1]: the program's length. A refused image leaves a table of
- * 1,024 places zero. */
+/* Unpacks an image into a table of 1,024 places. told[1]: the program's length. */
 uint32_t sam_unpack(const uint8_t *image, size_t image_len, uint64_t *table, size_t places, uint64_t *told,
                     size_t told_len);
 
 /* Sets every cell to INT 0, every history place to 0, N and H to the lent counts and the other registers to 0.
- * 11 comes before 10. A refused reset leaves the cells and the history as they were and sets the eight registers to
- * zero. */
+ * 11 comes before 10. A refused reset leaves the cells and the history as they were and sets the registers, where they
+ * are eight, to zero. */
 uint32_t sam_reset(const uint64_t *table, size_t places, uint64_t length, uint64_t *registers, size_t registers_len,
                    uint32_t *bits, size_t n, uint8_t *tags, size_t tags_len, uint64_t *history, size_t h);
 
