@@ -16,6 +16,7 @@ errors =
     -- "CMP with GREATER's sign."
     ∷ gives 16 "PUSHIMM 4 PUSHIMM 6 CMP" (int 1)
     ∷ gives 16 "PUSHIMM 6 PUSHIMM 6 CMP" (int 0)
+    ∷ gives 16 "PUSHIMM 7 PUSHIMM -7 CMP" (int (word (negsuc 0)))
     -- "Reading BITNAND as logic."
     ∷ gives 16 "PUSHIMM 1 PUSHIMM 1 BITNAND" (int (word (negsuc 1)))
     -- "Letting SP reach N."
