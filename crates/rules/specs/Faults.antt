@@ -40,6 +40,10 @@ refusals =
     ∷ refusal (text "PUSHIMM ADD") 33 8 1 9
     ∷ refusal (text "PUSHIMM 5:") 33 8 1 9
     ∷ refusal (text "STOP" ++ LF ∷ text "JUMP 1:") 33 10 2 6
+    -- bits have no minus, and the form is judged before the digits are counted
+    ∷ refusal (text "PUSHIMMF -#40200000") 33 9 1 10
+    ∷ refusal (text "PUSHIMM 1234567890123x") 33 8 1 9
+    ∷ refusal (text "PUSHIMM 1234567890123") 25 8 1 9
     -- a forbidden byte is at itself
     ∷ refusal (text "ADD" ++ LF ∷ text "ST*P") 22 6 2 3
     -- CR is a byte of its line, and an LF that ends a comment counts

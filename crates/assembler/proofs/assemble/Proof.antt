@@ -51,15 +51,21 @@ same-length-2 c = search needs
 
 returns-3 : tie.Need-returns-3
 returns-3 c =
-    let a = c .before .before .before .before .before .before .before .before .before .before .before .before .before .before .before .before .args in
-    let g = c .before .before .before .before .before .before .before .before .before .assemble-with in
-    let k = c .before .before .before .before .before .before .before .before .before .before .before .before .before .if1 .left in
+    let at-clear-from2 = c .before .before .before in
+    let at-used = at-clear-from2 .before in
+    let at-assemble-with = at-used .before .before .before .before .before in
+    let at-if2 = at-assemble-with .before .before .before in
+    let at-if1 = at-if2 .before in
+    let start = at-if1 .before .before .before in
+    let a = start .args in
+    let g = at-assemble-with .assemble-with in
+    let k = at-if1 .if1 .left in
     let l : length (g .last .1 .0) ≡ maxProgram = g .kept .1 .0 ∙ k in
-    let h = filled.answer-all (a .source .now) (a .table .now) k (c .before .before .before .before .before .before .before .before .before .before .before .before .if2 .left) in
+    let h = filled.answer-all (a .source .now) (a .table .now) k (at-if2 .if2 .left) in
     let u = filled.used-all (a .source .now) (a .table .now) (g .last .1 .0) (translated (a .source .now)) (g .result) k l (g .ensures) in
-    let e = c .before .before .before .clear-from2 .ensures in (
+    let e = at-clear-from2 .clear-from2 .ensures in (
       c .answer .ensures ∙ u .0 ∙ sym (ap (λ (x : Assembly). x .answer) h),
-      (rw (l, c .before .before .before .before .used .ensures) at e) ∙ u .1 ∙ sym (ap (λ (x : Assembly). x .table) h),
+      (rw (l, at-used .used .ensures) at e) ∙ u .1 ∙ sym (ap (λ (x : Assembly). x .table) h),
     )
 
 pub assemble-spec : {M : Type 1} → statement M

@@ -138,17 +138,27 @@ same-length-4 c = search needs
 
 returns-4 : tie.Need-returns-4
 returns-4 c =
-    let a = c .before .before .before .before .before .before .before .before .before .before .before .before .before .before .before .before .before .before .before .before .before .before .before .before .before .before .before .before .before .args in
-    let held = c .before .before .before .before .before .before .before .before .before .before .before .before .before .before .before .before .before .before .before .before .before .before .before .before .before .before .before .before .before .pre in
-    let x = c .before .before .before .before .before .before .before .before .before .before .before .before .before .before .before .before .before .before .before .before .before .step-count in
-    let some = c .before .before .before .before .before .before .before .before .before .before .before .before .before .before .before .before .before .before .before .before .before .before .before .before .before .if1 .left in
-    let ok = sym (c .before .before .before .before .before .before .before .before .before .before .before .before .before .before .before .before .before .before .before .before .before .before .before .is-formed-step .ensures) ∙ not-false _ (c .before .before .before .before .before .before .before .before .before .before .before .before .before .before .before .before .before .before .before .before .before .before .if2 .left) in
+    let at-step-pc = c .before .before .before in
+    let at-clear-places = at-step-pc .before .before .before in
+    let at-restore = at-clear-places .before .before .before .before .before .before in
+    let at-if3 = at-restore .before .before .before .before .before in
+    let at-are-formed-cells = at-if3 .before in
+    let at-step-count = at-are-formed-cells .before .before .before in
+    let at-if2 = at-step-count .before in
+    let at-is-formed-step = at-if2 .before in
+    let at-if1 = at-is-formed-step .before .before in
+    let start = at-if1 .before .before .before .before in
+    let a = start .args in
+    let held = start .pre in
+    let x = at-step-count .step-count in
+    let some = at-if1 .if1 .left in
+    let ok = sym (at-is-formed-step .is-formed-step .ensures) ∙ not-false _ (at-if2 .if2 .left) in
     back-undone (program [] (a .count)) (a .r) (memory (a .bits .now) (a .tags .now) (a .history .now)) some (x .result) (x .ensures) ok _ _ _ _ _ _
-    (sym (c .before .before .before .before .before .before .before .before .before .before .before .before .before .before .before .before .before .before .are-formed-cells .ensures) ∙ not-false _ (c .before .before .before .before .before .before .before .before .before .before .before .before .before .before .before .before .before .if3 .left)) (c .before .before .before .step-pc .ensures) (c .before .before .step-sp .ensures) (c .before .step-fbr .ensures)
-    (c .before .before .before .before .before .before .before .before .before .before .before .before .restore .ensures .0) (c .before .before .before .before .before .before .before .before .before .before .before .before .restore .ensures .1)
+    (sym (at-are-formed-cells .are-formed-cells .ensures) ∙ not-false _ (at-if3 .if3 .left)) (at-step-pc .step-pc .ensures) (c .before .before .step-sp .ensures) (c .before .step-fbr .ensures)
+    (at-restore .restore .ensures .0) (at-restore .restore .ensures .1)
     (zeroed (a .r .used) (x .result) (a .history .now) _
     (within-used (program [] (a .count)) (a .r) (memory (a .bits .now) (a .tags .now) (a .history .now)) some (x .result) (x .ensures) ok)
-    (omega (arith, held .places, held .used)) (c .before .before .before .before .before .before .clear-places .ensures))
+    (omega (arith, held .places, held .used)) (at-clear-places .clear-places .ensures))
 
 pub plain-back-spec : {M : Type 1} → statement M
 plain-back-spec =

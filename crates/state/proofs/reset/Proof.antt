@@ -55,10 +55,17 @@ same-length-3 c = search needs
 
 returns-3 : tie.Need-returns-3
 returns-3 c =
-    let a = c .before .before .before .before .before .before .before .before .before .before .before .before .before .before .before .before .before .before .before .before .args in
-    reset-begun (program (a .table .now) (a .length)) (memory (a .bits .now) (a .tags .now) (a .history .now)) (sym (c .before .before .before .before .before .before .before .before .before .before .before .before .before .before .before .has-start-sizes .ensures) ∙ not-false _ (c .before .before .before .before .before .before .before .before .before .before .before .before .before .before .if1 .left)) _ _ _ _
-    (sym (c .before .before .before .before .before .before .before .before .before .before .before .before .before .is-sound .ensures) ∙ not-false _ (c .before .before .before .before .before .before .before .before .before .before .before .before .if2 .left)) (c .zero-registers3 .ensures)
-    (c .before .before .before .before .before .before .before .before .before .clear-cells .ensures .0) (c .before .before .before .before .before .before .before .before .before .clear-cells .ensures .1) (c .before .before .before .clear-places .ensures)
+    let at-clear-places = c .before .before .before in
+    let at-clear-cells = at-clear-places .before .before .before .before .before .before in
+    let at-if2 = at-clear-cells .before .before .before in
+    let at-is-sound = at-if2 .before in
+    let at-if1 = at-is-sound .before in
+    let at-has-start-sizes = at-if1 .before in
+    let start = at-has-start-sizes .before .before .before .before .before in
+    let a = start .args in
+    reset-begun (program (a .table .now) (a .length)) (memory (a .bits .now) (a .tags .now) (a .history .now)) (sym (at-has-start-sizes .has-start-sizes .ensures) ∙ not-false _ (at-if1 .if1 .left)) _ _ _ _
+    (sym (at-is-sound .is-sound .ensures) ∙ not-false _ (at-if2 .if2 .left)) (c .zero-registers3 .ensures)
+    (at-clear-cells .clear-cells .ensures .0) (at-clear-cells .clear-cells .ensures .1) (at-clear-places .clear-places .ensures)
 
 pub reset-spec : {M : Type 1} → statement M
 reset-spec =

@@ -38,10 +38,12 @@ same-length c = c .before .before .before .before .clear-places .kept .0
 
 returns : tie.Need-returns Inv-loop μ-loop
 returns c =
-    let a = c .before .before .before .before .before .before .before .before .args in
+    let at-clear-places = c .before .before .before .before in
+    let start = at-clear-places .before .before .before .before in
+    let a = start .args in
     let h : length (now (a .image)) * 8 < 11 = leb-false _ _ (sym (c .before .has-bits .ensures) ∙ not-true _ (c .if1 .taken)) in
-    unfit-filed (now (a .image)) (now (a .table)) (c .before .before .before .before .before .before .before .before .pre) EndsEarly _ (unpacked-short (now (a .image)) (omega (arith, bitsOf-length (now (a .image)))))
-    (c .before .before .before .before .clear-places .ensures ∙ ap (λ (k : ℕ). replicate k 0) (c .before .before .before .before .before .before .before .before .pre))
+    unfit-filed (now (a .image)) (now (a .table)) (start .pre) EndsEarly _ (unpacked-short (now (a .image)) (omega (arith, bitsOf-length (now (a .image)))))
+    (at-clear-places .clear-places .ensures ∙ ap (λ (k : ℕ). replicate k 0) (start .pre))
 
 get-requires : tie.Need-get-requires Inv-loop μ-loop
 get-requires c κs =
@@ -57,25 +59,31 @@ same-length-2 c = c .before .before .before .before .before .before .clear-place
 
 returns-2 : tie.Need-returns-2 Inv-loop μ-loop
 returns-2 c =
-    let a = c .before .before .before .before .before .before .before .before .before .before .args in
-    let h : 11 ≤ length (now (a .image)) * 8 = leb-true _ _ (sym (c .before .before .before .has-bits .ensures) ∙ not-false _ (c .before .before .if1 .left)) in
-    unfit-filed (now (a .image)) (now (a .table)) (c .before .before .before .before .before .before .before .before .before .before .pre) CountTooHigh _
+    let at-has-bits = c .before .before .before in
+    let at-clear-places = at-has-bits .before .before .before in
+    let start = at-clear-places .before .before .before .before in
+    let a = start .args in
+    let h : 11 ≤ length (now (a .image)) * 8 = leb-true _ _ (sym (at-has-bits .has-bits .ensures) ∙ not-false _ (c .before .before .if1 .left)) in
+    unfit-filed (now (a .image)) (now (a .table)) (start .pre) CountTooHigh _
     (unpacked-count (now (a .image)) (c .before .get .result) (omega (arith, bitsOf-length (now (a .image)))) (c .before .get .ensures .0) (c .if2 .taken))
-    (c .before .before .before .before .before .before .clear-places .ensures ∙ ap (λ (k : ℕ). replicate k 0) (c .before .before .before .before .before .before .before .before .before .before .pre))
+    (at-clear-places .clear-places .ensures ∙ ap (λ (k : ℕ). replicate k 0) (start .pre))
 
 loop-holds : tie.Need-loop-holds Inv-loop μ-loop
 loop-holds c =
-    let a = c .before .before .before .before .before .before .before .before .before .before .args in
-    let h : 11 ≤ length (now (a .image)) * 8 = leb-true _ _ (sym (c .before .before .before .has-bits .ensures) ∙ not-false _ (c .before .before .if1 .left)) in
+    let at-has-bits = c .before .before .before in
+    let at-clear-places = at-has-bits .before .before .before in
+    let start = at-clear-places .before .before .before .before in
+    let a = start .args in
+    let h : 11 ≤ length (now (a .image)) * 8 = leb-true _ _ (sym (at-has-bits .has-bits .ensures) ∙ not-false _ (c .before .before .if1 .left)) in
     let n = c .before .get .result in (
       omega arith,
       omega arith,
-      c .before .before .before .before .before .before .clear-places .kept .0 ∙ c .before .before .before .before .before .before .before .before .before .before .pre,
+      at-clear-places .clear-places .kept .0 ∙ start .pre,
       omega arith,
       omega arith,
       unpacked-from (now (a .image)) n (omega (arith, bitsOf-length (now (a .image)))) (c .before .get .ensures .0) (c .if2 .left)
           ∙ sym (prepend-none _) ∙ ap (λ (k : ℕ). prepend [] (unpackFrom n k (drop 11 (bitsOf (now (a .image)))))) (sym (sub-zero n)),
-      c .before .before .before .before .before .before .clear-places .ensures ∙ ap (λ (k : ℕ). replicate k 0) (c .before .before .before .before .before .before .before .before .before .before .pre),
+      at-clear-places .clear-places .ensures ∙ ap (λ (k : ℕ). replicate k 0) (start .pre),
     )
 
 take-instruction-requires : tie.Need-take-instruction-requires Inv-loop μ-loop
@@ -101,19 +109,24 @@ loop-less c = omega arith
 
 loop-again : tie.Need-loop-again Inv-loop μ-loop
 loop-again c =
-    let a = c .before .before .before .before .before .before .before .before .before .before .before .before .before .before .before .before .args in
-    let t = c .before .before .before .before .before .loop in
-    let n = c .before .before .before .before .before .before .before .get .result in
+    let at-take-instruction = c .before .before .before in
+    let at-loop-test = at-take-instruction .before in
+    let at-loop = at-loop-test .before in
+    let at-get = at-loop .before .before in
+    let start = at-get .before .before .before .before .before .before .before .before .before in
+    let a = start .args in
+    let t = at-loop .loop in
+    let n = at-get .get .result in
     let p = c .before .place .given .0 .0 in
     let taken = c .before .place .given .0 .1 .0 in
-    let e : bitsTaken (c .before .before .before .take-instruction .result) ≡ taken = ap bitsTaken (c .before .place .given .1) in
-    let r = sym (c .before .before .before .take-instruction .ensures .0) ∙ c .before .place .given .1 in (
+    let e : bitsTaken (at-take-instruction .take-instruction .result) ≡ taken = ap bitsTaken (c .before .place .given .1) in
+    let r = sym (at-take-instruction .take-instruction .ensures .0) ∙ c .before .place .given .1 in (
       omega arith,
       t .inv .1,
       length-set (t .table) (t .i) p ∙ t .inv .2,
-      omega (arith, c .before .before .before .take-instruction .ensures .1 .0),
-      omega (arith, c .before .before .before .take-instruction .ensures .1 .1),
-      turn-place (unpacked (now (a .image))) n (t .i) (t .at) (t .table) (bitsOf (now (a .image))) (c .before .before .before .before .loop-test .taken) (t .inv .5) p taken (omega arith) r,
+      omega (arith, at-take-instruction .take-instruction .ensures .1 .0),
+      omega (arith, at-take-instruction .take-instruction .ensures .1 .1),
+      turn-place (unpacked (now (a .image))) n (t .i) (t .at) (t .table) (bitsOf (now (a .image))) (at-loop-test .loop-test .taken) (t .inv .5) p taken (omega arith) r,
       turn-rest (t .table) (t .i) p (omega arith) (t .inv .6),
     )
 
@@ -128,12 +141,18 @@ same-length-3 c = c .before .before .clear-places2 .kept .0 ∙ c .before .befor
 
 returns-3 : tie.Need-returns-3 Inv-loop μ-loop
 returns-3 c =
-    let a = c .before .before .before .before .before .before .before .before .before .before .before .before .before .before .before .before .before .before .before .before .args in
-    let t = c .before .before .before .before .before .before .before .before .before .loop in
-    let k = c .before .before .before .before .before .refusal .given .0 .0 in
-    let r = sym (c .before .before .before .before .before .before .before .take-instruction .ensures .0) ∙ c .before .before .before .before .before .refusal .given .1 in
-    unfit-filed (now (a .image)) (now (a .table)) (c .before .before .before .before .before .before .before .before .before .before .before .before .before .before .before .before .before .before .before .before .pre) k _
-    (turn-unfit (unpacked (now (a .image))) (c .before .before .before .before .before .before .before .before .before .before .before .get .result) (t .i) (t .at) (t .table) (bitsOf (now (a .image))) (c .before .before .before .before .before .before .before .before .loop-test .taken) (t .inv .5) k r)
+    let at-refusal = c .before .before .before .before .before in
+    let at-take-instruction = at-refusal .before .before in
+    let at-loop-test = at-take-instruction .before in
+    let at-loop = at-loop-test .before in
+    let at-get = at-loop .before .before in
+    let start = at-get .before .before .before .before .before .before .before .before .before in
+    let a = start .args in
+    let t = at-loop .loop in
+    let k = at-refusal .refusal .given .0 .0 in
+    let r = sym (at-take-instruction .take-instruction .ensures .0) ∙ at-refusal .refusal .given .1 in
+    unfit-filed (now (a .image)) (now (a .table)) (start .pre) k _
+    (turn-unfit (unpacked (now (a .image))) (at-get .get .result) (t .i) (t .at) (t .table) (bitsOf (now (a .image))) (at-loop-test .loop-test .taken) (t .inv .5) k r)
     (c .before .before .clear-places2 .ensures ∙ ap (λ (m : ℕ). replicate m 0) (t .inv .2))
 
 is-padded-requires : tie.Need-is-padded-requires Inv-loop μ-loop
@@ -144,9 +163,12 @@ same-length-4 c = c .before .before .before .loop .inv .2 ∙ sym (c .before .be
 
 returns-4 : tie.Need-returns-4 Inv-loop μ-loop
 returns-4 c =
-    let a = c .before .before .before .before .before .before .before .before .before .before .before .before .before .before .args in
-    let t = c .before .before .before .loop in
-    let n = c .before .before .before .before .before .get .result in
+    let at-loop = c .before .before .before in
+    let at-get = at-loop .before .before in
+    let start = at-get .before .before .before .before .before .before .before .before .before in
+    let a = start .args in
+    let t = at-loop .loop in
+    let n = at-get .get .result in
     let ei : t .i ≡ n = omega arith in
     let ez : n - t .i ≡ 0 = omega arith in
     let e = t .inv .5 ∙ ap₂ (λ (x y : ℕ). prepend (take x (t .table)) (unpackFrom n y (drop (t .at) (bitsOf (now (a .image)))))) ei ez in
@@ -161,13 +183,18 @@ same-length-5 c = c .before .before .clear-places3 .kept .0 ∙ c .before .befor
 
 returns-5 : tie.Need-returns-5 Inv-loop μ-loop
 returns-5 c =
-    let a = c .before .before .before .before .before .before .before .before .before .before .before .before .before .before .before .before .before .before .args in
-    let t = c .before .before .before .before .before .before .before .loop in
-    let n = c .before .before .before .before .before .before .before .before .before .get .result in
+    let at-if3 = c .before .before .before .before in
+    let at-is-padded = at-if3 .before in
+    let at-loop = at-is-padded .before .before in
+    let at-get = at-loop .before .before in
+    let start = at-get .before .before .before .before .before .before .before .before .before in
+    let a = start .args in
+    let t = at-loop .loop in
+    let n = at-get .get .result in
     let ei : t .i ≡ n = omega arith in
     let ez : n - t .i ≡ 0 = omega arith in
     let e = t .inv .5 ∙ ap₂ (λ (x y : ℕ). prepend (take x (t .table)) (unpackFrom n y (drop (t .at) (bitsOf (now (a .image)))))) ei ez in
-    unfit-filed (now (a .image)) (now (a .table)) (c .before .before .before .before .before .before .before .before .before .before .before .before .before .before .before .before .before .before .pre) BadPadding _ (end-unfit (now (a .image)) (t .table) n (t .at) e (sym (c .before .before .before .before .before .is-padded .ensures) ∙ c .before .before .before .before .if3 .left))
+    unfit-filed (now (a .image)) (now (a .table)) (start .pre) BadPadding _ (end-unfit (now (a .image)) (t .table) n (t .at) e (sym (at-is-padded .is-padded .ensures) ∙ at-if3 .if3 .left))
     (c .before .before .clear-places3 .ensures ∙ ap (λ (m : ℕ). replicate m 0) (t .inv .2))
 
 pub read-image-spec : {M : Type 1} → statement M

@@ -17,8 +17,10 @@ same-length c = search needs
 
 returns : tie.Need-returns
 returns c =
-    let a = c .before .before .before .before .before .before .before .before .args in
-    untold-by 4 (a .told .now) (c .before .before .before .before .if1 .taken) maxProgram (a .table .now) _ (c .before .before .blank-places .ensures)
+    let at-if1 = c .before .before .before .before in
+    let start = at-if1 .before .before .before .before in
+    let a = start .args in
+    untold-by 4 (a .told .now) (at-if1 .if1 .taken) maxProgram (a .table .now) _ (c .before .before .blank-places .ensures)
 
 assemble-requires : tie.Need-assemble-requires
 assemble-requires c κs = search needs
@@ -43,10 +45,16 @@ same-length-3 c = search needs
 
 returns-2 : tie.Need-returns-2
 returns-2 c =
-    filled-by numberOfAssembled (λ (a : Assembled). placed (lengthOfAssembled a) (positionOfAssembled a)) 4 (c .before .before .before .before .before .before .before .before .before .before .before .before .before .before .before .args .told .now) (c .before .before .before .before .before .before .before .before .before .before .before .if1 .left) _
-    (c .before .before .before .before .before .before .before .before .before .assemble .ensures .0)
-    (c .before .before .before .before .before .before .before .before .before .assemble .ensures .1)
-    (c .before .before .before .tell-placed .ensures ∙ (λ i. placed ((c .before .before .before .before .before .before .assembled-length .ensures) i) ((c .before .before .before .before .assembled-position .ensures) i)))
+    let at-tell-placed = c .before .before .before in
+    let at-assembled-position = at-tell-placed .before in
+    let at-assembled-length = at-assembled-position .before .before in
+    let at-assemble = at-assembled-length .before .before .before in
+    let at-if1 = at-assemble .before .before in
+    let start = at-if1 .before .before .before .before in
+    filled-by numberOfAssembled (λ (a : Assembled). placed (lengthOfAssembled a) (positionOfAssembled a)) 4 (start .args .told .now) (at-if1 .if1 .left) _
+    (at-assemble .assemble .ensures .0)
+    (at-assemble .assemble .ensures .1)
+    (at-tell-placed .tell-placed .ensures ∙ (λ i. placed ((at-assembled-length .assembled-length .ensures) i) ((at-assembled-position .assembled-position .ensures) i)))
     (c .assembled-number .ensures)
 
 pub sam-assemble-spec : {M : Type 1} → statement M

@@ -18,8 +18,10 @@ same-length c = search needs
 
 returns : tie.Need-returns
 returns c =
-    let a = c .before .before .before .before .before .before .before .before .args in
-    untold-by 1 (a .told .now) (c .before .before .before .before .if1 .taken) listingSize (a .text .now) _ (c .before .before .blank-bytes .ensures)
+    let at-if1 = c .before .before .before .before in
+    let start = at-if1 .before .before .before .before in
+    let a = start .args in
+    untold-by 1 (a .told .now) (at-if1 .if1 .taken) listingSize (a .text .now) _ (c .before .before .blank-bytes .ensures)
 
 list-requires : tie.Need-list-requires
 list-requires c κs = search needs
@@ -41,10 +43,15 @@ same-length-3 c = search needs
 
 returns-2 : tie.Need-returns-2
 returns-2 c =
-    filled-by numberOfListed (λ (a : Listed). lengthOfListed a ∷ []) 1 (c .before .before .before .before .before .before .before .before .before .before .before .before .before .before .args .told .now) (c .before .before .before .before .before .before .before .before .before .before .if1 .left) _
-    (c .before .before .before .before .before .before .before .before .list .ensures .0)
-    (c .before .before .before .before .before .before .before .before .list .ensures .1)
-    (c .before .before .before .tell .ensures ∙ ap (λ (x : ℕ). x ∷ []) (c .before .before .before .before .listed-length .ensures))
+    let at-tell = c .before .before .before in
+    let at-listed-length = at-tell .before in
+    let at-list = at-listed-length .before .before .before .before in
+    let at-if1 = at-list .before .before in
+    let start = at-if1 .before .before .before .before in
+    filled-by numberOfListed (λ (a : Listed). lengthOfListed a ∷ []) 1 (start .args .told .now) (at-if1 .if1 .left) _
+    (at-list .list .ensures .0)
+    (at-list .list .ensures .1)
+    (at-tell .tell .ensures ∙ ap (λ (x : ℕ). x ∷ []) (at-listed-length .listed-length .ensures))
     (c .listed-number .ensures)
 
 pub sam-list-spec : {M : Type 1} → statement M

@@ -18,8 +18,10 @@ same-length c = search needs
 
 returns : tie.Need-returns
 returns c =
-    let a = c .before .before .before .before .before .before .before .before .args in
-    untold-by 1 (a .told .now) (c .before .before .before .before .if1 .taken) imageSize (a .image .now) _ (c .before .before .blank-bytes .ensures)
+    let at-if1 = c .before .before .before .before in
+    let start = at-if1 .before .before .before .before in
+    let a = start .args in
+    untold-by 1 (a .told .now) (at-if1 .if1 .taken) imageSize (a .image .now) _ (c .before .before .blank-bytes .ensures)
 
 pack-requires : tie.Need-pack-requires
 pack-requires c κs = search needs
@@ -41,10 +43,15 @@ same-length-3 c = search needs
 
 returns-2 : tie.Need-returns-2
 returns-2 c =
-    filled-by numberOfPacked (λ (a : Packed). lengthOfPacked a ∷ []) 1 (c .before .before .before .before .before .before .before .before .before .before .before .before .before .before .args .told .now) (c .before .before .before .before .before .before .before .before .before .before .if1 .left) _
-    (c .before .before .before .before .before .before .before .before .pack .ensures .0)
-    (c .before .before .before .before .before .before .before .before .pack .ensures .1)
-    (c .before .before .before .tell .ensures ∙ ap (λ (x : ℕ). x ∷ []) (c .before .before .before .before .packed-length .ensures))
+    let at-tell = c .before .before .before in
+    let at-packed-length = at-tell .before in
+    let at-pack = at-packed-length .before .before .before .before in
+    let at-if1 = at-pack .before .before in
+    let start = at-if1 .before .before .before .before in
+    filled-by numberOfPacked (λ (a : Packed). lengthOfPacked a ∷ []) 1 (start .args .told .now) (at-if1 .if1 .left) _
+    (at-pack .pack .ensures .0)
+    (at-pack .pack .ensures .1)
+    (at-tell .tell .ensures ∙ ap (λ (x : ℕ). x ∷ []) (at-packed-length .packed-length .ensures))
     (c .packed-number .ensures)
 
 pub sam-pack-spec : {M : Type 1} → statement M

@@ -45,9 +45,13 @@ same-length-4 c = search needs
 
 returns-2 : tie.Need-returns-2
 returns-2 c =
-    reset-called (c .before .before .before .before .before .before .before .before .before .before .before .before .before .before .before .before .before .before .before .before .before .before .args .registers .now) (c .before .before .before .before .before .before .before .before .before .before .before .before .before .before .before .before .if1 .left) _
-    (c .before .before .before .before .before .before .before .before .before .before .before .before .reset .ensures)
-    (c .before .before .before .write .ensures)
+    let at-write = c .before .before .before in
+    let at-reset = at-write .before .before .before .before .before .before .before .before .before in
+    let at-if1 = at-reset .before .before .before .before in
+    let start = at-if1 .before .before .before .before .before .before in
+    reset-called (start .args .registers .now) (at-if1 .if1 .left) _
+    (at-reset .reset .ensures)
+    (at-write .write .ensures)
     (c .reset-number .ensures)
 
 pub sam-reset-spec : {M : Type 1} → statement M

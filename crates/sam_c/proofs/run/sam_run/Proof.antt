@@ -25,10 +25,14 @@ same-length c = search needs
 
 returns-2 : tie.Need-returns-2
 returns-2 c =
-    let a = c .before .before .before .before .before .before .before .before .before .before .before .before .before .args in
-    (λ i. walked ((c .before .before .before .tell .ensures) i) ((c .refused .ensures) i) (a .registers .now) (memory (a .bits .now) (a .tags .now) (a .history .now)))
-    ∙ sym (of-another registerCount (a .registers .now) _ _ (c .before .before .before .before .before .if2 .taken))
-    ∙ sym (of-length 1 (a .told .now) _ _ (c .before .before .before .before .before .before .if1 .left))
+    let at-tell = c .before .before .before in
+    let at-if2 = at-tell .before .before in
+    let at-if1 = at-if2 .before in
+    let start = at-if1 .before .before .before .before .before .before .before in
+    let a = start .args in
+    (λ i. walked ((at-tell .tell .ensures) i) ((c .refused .ensures) i) (a .registers .now) (memory (a .bits .now) (a .tags .now) (a .history .now)))
+    ∙ sym (of-another registerCount (a .registers .now) _ _ (at-if2 .if2 .taken))
+    ∙ sym (of-length 1 (a .told .now) _ _ (at-if1 .if1 .left))
 
 read-requires : tie.Need-read-requires
 read-requires c κs = search needs
@@ -62,14 +66,21 @@ same-length-6 c = search needs
 
 returns-3 : tie.Need-returns-3
 returns-3 c =
-    let a = c .before .before .before .before .before .before .before .before .before .before .before .before .before .before .before .before .before .before .before .before .before .before .before .before .before .before .before .before .before .before .args in
-    run-called (a .told .now) (c .before .before .before .before .before .before .before .before .before .before .before .before .before .before .before .before .before .before .before .before .before .before .before .if1 .left) (a .registers .now) (c .before .before .before .before .before .before .before .before .before .before .before .before .before .before .before .before .before .before .before .before .before .before .if2 .left) _ _
+    let at-tell2 = c .before .before .before in
+    let at-write = at-tell2 .before .before .before .before in
+    let at-run = at-write .before .before .before .before .before .before .before .before .before in
+    let at-read = at-run .before .before .before .before in
+    let at-if2 = at-read .before .before in
+    let at-if1 = at-if2 .before in
+    let start = at-if1 .before .before .before .before .before .before .before in
+    let a = start .args in
+    run-called (a .told .now) (at-if1 .if1 .left) (a .registers .now) (at-if2 .if2 .left) _ _
     (λ (r : Registers). run (program (a .table .now) (a .length)) (a .limit) r (memory (a .bits .now) (a .tags .now) (a .history .now)))
-    (c .before .before .before .before .before .before .before .before .before .before .before .before .before .before .before .before .before .before .before .before .read .ensures)
-    (c .before .before .before .before .before .before .before .before .before .before .before .before .before .before .before .before .run .ensures .0)
-    (c .before .before .before .before .before .before .before .before .before .before .before .before .before .before .before .before .run .ensures .1 .0)
-    (c .before .before .before .before .before .before .before .write .ensures)
-    (c .before .before .before .tell2 .ensures)
+    (at-read .read .ensures)
+    (at-run .run .ensures .0)
+    (at-run .run .ensures .1 .0)
+    (at-write .write .ensures)
+    (at-tell2 .tell2 .ensures)
     (c .ending-number .ensures)
 
 pub sam-run-spec : {M : Type 1} → statement M

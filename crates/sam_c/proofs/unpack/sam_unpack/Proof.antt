@@ -18,8 +18,10 @@ same-length c = search needs
 
 returns : tie.Need-returns
 returns c =
-    let a = c .before .before .before .before .before .before .before .before .args in
-    untold-by 1 (a .told .now) (c .before .before .before .before .if1 .taken) maxProgram (a .table .now) _ (c .before .before .blank-places .ensures)
+    let at-if1 = c .before .before .before .before in
+    let start = at-if1 .before .before .before .before in
+    let a = start .args in
+    untold-by 1 (a .told .now) (at-if1 .if1 .taken) maxProgram (a .table .now) _ (c .before .before .blank-places .ensures)
 
 unpack-requires : tie.Need-unpack-requires
 unpack-requires c κs = search needs
@@ -41,10 +43,15 @@ same-length-3 c = search needs
 
 returns-2 : tie.Need-returns-2
 returns-2 c =
-    filled-by numberOfPacked (λ (a : Packed). lengthOfPacked a ∷ []) 1 (c .before .before .before .before .before .before .before .before .before .before .before .before .before .before .args .told .now) (c .before .before .before .before .before .before .before .before .before .before .if1 .left) _
-    (c .before .before .before .before .before .before .before .before .unpack .ensures .0)
-    (c .before .before .before .before .before .before .before .before .unpack .ensures .1)
-    (c .before .before .before .tell .ensures ∙ ap (λ (x : ℕ). x ∷ []) (c .before .before .before .before .packed-length .ensures))
+    let at-tell = c .before .before .before in
+    let at-packed-length = at-tell .before in
+    let at-unpack = at-packed-length .before .before .before .before in
+    let at-if1 = at-unpack .before .before in
+    let start = at-if1 .before .before .before .before in
+    filled-by numberOfPacked (λ (a : Packed). lengthOfPacked a ∷ []) 1 (start .args .told .now) (at-if1 .if1 .left) _
+    (at-unpack .unpack .ensures .0)
+    (at-unpack .unpack .ensures .1)
+    (at-tell .tell .ensures ∙ ap (λ (x : ℕ). x ∷ []) (at-packed-length .packed-length .ensures))
     (c .packed-number .ensures)
 
 pub sam-unpack-spec : {M : Type 1} → statement M
