@@ -95,7 +95,7 @@ against() {
     fi
 }
 
-[ -n "$CC" ] || skip "$WHY"
+c_works || skip "$WHY"
 [ -f "$library" ] || skip "no $library; make it with: rt staticlib sam_c"
 if [ "${1:-}" = --count ]; then
     [ -z "$RUN" ] || skip "the emulator counts no instructions"

@@ -20,7 +20,7 @@ measure() {
 }
 
 echo "nanoseconds a turn of the counting loop"
-if [ -z "$CC" ]; then
+if ! c_works; then
     row "sam, plain" "skipped: $WHY"
 elif [ ! -f "$library" ]; then
     row "sam, plain" "skipped: no $library; make it with: rt staticlib sam_c"
