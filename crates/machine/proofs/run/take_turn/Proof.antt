@@ -43,13 +43,10 @@ shared-slice-read-decide-at c =
 
 decide-at-requires : tie.Need-decide-at-requires
 decide-at-requires c κs =
-    let at-if2 = c .before .before .before in
-    let at-if1 = at-if2 .before in
-    let start = at-if1 .before .before .before .before .before .before in
-    let a = start .args in
+    let a = c .before .before .before .before .before .before .before .before .before .before .args in
     let m = memory (a .bits .now) (a .tags .now) (a .history .now) in
     let p = program (a .table .now) (a .count) in
-    (small p (a .r) m (start .pre), live p (a .r) m (start .pre), coded p (a .r) m (start .pre) (at-if1 .if1 .left) (at-if2 .if2 .left))
+    (small p (a .r) m (c .before .before .before .before .before .before .before .before .before .before .pre), live p (a .r) m (c .before .before .before .before .before .before .before .before .before .before .pre), coded p (a .r) m (c .before .before .before .before .before .before .before .before .before .before .pre) (c .before .before .before .before .if1 .left) (c .before .before .before .if2 .left))
 
 carry-requires : tie.Need-carry-requires
 carry-requires c κs e q =
@@ -68,17 +65,12 @@ same-length-3 c = search needs
 
 returns-3 : tie.Need-returns-3
 returns-3 c =
-    let at-carry = c .before .before .before .before .before .before in
-    let at-decide-at = at-carry .before .before .before .before in
-    let at-if2 = at-decide-at .before .before .before .before in
-    let at-if1 = at-if2 .before in
-    let start = at-if1 .before .before .before .before .before .before in
-    let a = start .args in
+    let a = c .before .before .before .before .before .before .before .before .before .before .before .before .before .before .before .before .before .before .before .before .before .args in
     let m = memory (a .bits .now) (a .tags .now) (a .history .now) in
-    at-carry .carry .ensures
+    c .before .before .before .before .before .before .carry .ensures
     ∙ ap (λ (z : Decision). carried (a .r) m (fitted (a .r) z))
-    (at-decide-at .decide-at .ensures)
-    ∙ sym (step-carries (program (a .table .now) (a .count)) (a .r) m (start .pre) (at-if1 .if1 .left) (at-if2 .if2 .left))
+    (c .before .before .before .before .before .before .before .before .before .before .decide-at .ensures)
+    ∙ sym (step-carries (program (a .table .now) (a .count)) (a .r) m (c .before .before .before .before .before .before .before .before .before .before .before .before .before .before .before .before .before .before .before .before .before .pre) (c .before .before .before .before .before .before .before .before .before .before .before .before .before .before .before .if1 .left) (c .before .before .before .before .before .before .before .before .before .before .before .before .before .before .if2 .left))
 
 pub take-turn-spec : {M : Type 1} → statement M
 take-turn-spec =
