@@ -11,7 +11,7 @@ ghost use Rattle.rules.specs.Places.{cellAddress, cellTag, cellBits};
 ghost use Rattle.rules.specs.Table.{program};
 ghost use Rattle.rules.specs.State.{memory};
 ghost use Rattle.rules.specs.Back.{formedCell, formedCells, formedStep, restored, plainBack, back};
-ghost use Rattle.state.specs.Parts.{Held};
+ghost use Rattle.state.specs.Held.{Held};
 ghost use Rattle.state.specs.Outcomes.{stepped};
 
 // Whether a cell place is well formed, of N cells in a program of `count` instructions, with an address of at least `low`.

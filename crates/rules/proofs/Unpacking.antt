@@ -13,7 +13,7 @@ use Rattle.rules.specs.Sizes.{maxProgram}
 use Rattle.rules.specs.Fields.{value, bitsOf}
 use Rattle.rules.specs.Instructions.{codes, kindOf}
 use Rattle.rules.specs.Table.{placeOf, within}
-use Rattle.rules.specs.Image.{Filed, countWidth, codeWidth, widthOf, extended, takeOperand, takeOne, Unpacking, places, unfit, prepend, padded, atEnd, followed, unpackFrom, unpacked, denied, filed, unpack}
+use Rattle.rules.specs.Image.{countWidth, codeWidth, widthOf, extended, takeOperand, takeOne, Unpacking, places, unfit, prepend, padded, atEnd, followed, unpackFrom, unpacked, denied, filed, unpack}
 use Rattle.rules.specs.declared.ImageRefusal.{ImageRefusal}
 use Rattle.rules.specs.declared.ImageRefusal.the-variants.{OutputLength, EndsEarly, CountTooHigh, CodeTooHigh, OperandOutside, BadPadding}
 use Rattle.rules.specs.declared.Packed.the-variants.{Length, Denied}

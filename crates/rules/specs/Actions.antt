@@ -4,7 +4,7 @@ use Prim.Native.Nat.{ℕ, suc, _-_}
 use mathlib.Core.Bool.{Bool, true, false, not, _&&_, _||_, cond}
 use lib.Dec.{ltb, eqb}
 use lib.IntN.{ℤ, pos, negsuc, _+ℤ_}
-use Rattle.rules.specs.Tags.{INT, FLOAT, MA, PA, int, float, ma, pa, has}
+use Rattle.rules.specs.Tags.{INT, FLOAT, MA, PA, int, float, ma, has}
 use Rattle.rules.specs.Words.{signed, word, inWord, bit, holds}
 use Rattle.rules.specs.Floats.{unordered, orderedF, equalF, intToF, cut, hasInt}
 use Rattle.rules.specs.Cells.{Cells, cellAt}

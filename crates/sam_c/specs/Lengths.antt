@@ -11,7 +11,7 @@ use Rattle.rules.specs.Sizes.{maxProgram, maxHistory, maxLimit, listingSize, im
 use Rattle.rules.specs.Table.{program}
 use Rattle.rules.specs.State.{Memory, memory}
 use Rattle.rules.specs.Examples.{programOf, holds}
-use Rattle.sam_c.specs.Calls.{Filled, Moved, Walked, ofLength, assembleCall, listCall, packCall, unpackCall, resetCall, runCall}
+use Rattle.sam_c.specs.Calls.{Filled, Moved, ofLength, assembleCall, listCall, packCall, unpackCall, resetCall, runCall}
 
 -- what stood in every lent place before
 abbrev old : ℕ → List ℕ
@@ -21,8 +21,8 @@ abbrev zeros : ℕ → List ℕ
 zeros n = replicate n 0
 
 -- 31, what is told left as it was, and that output
-abbrev untold31 : Filled → List ℕ → List ℕ → Bool
-untold31 f told output = eqb (f .number) 31 && same (f .told) told && same (f .output) output
+abbrev isUntold : Filled → List ℕ → List ℕ → Bool
+isUntold f told output = eqb (f .number) 31 && same (f .told) told && same (f .output) output
 
 -- that number, the registers left as they were, and cells and history too
 abbrev stays : Moved → ℕ → List ℕ → Memory → Bool
@@ -49,15 +49,15 @@ runs number limit registers told after =
 unfoldable pub lengths : List Bool
 lengths =
     -- "Refused writers leave an output of wrong length untouched, zero one of right length", refused for what they tell too, and then for nothing else
-    untold31 (assembleCall (text "STOP") (old maxProgram) (old 3)) (old 3) (zeros maxProgram)
-    ∷ untold31 (assembleCall (text "FOO") (old maxProgram) (old 5)) (old 5) (zeros maxProgram)
-    ∷ untold31 (assembleCall (text "STOP") (old 2) []) [] (old 2)
-    ∷ untold31 (listCall (programOf "STOP") (old listingSize) []) [] (zeros listingSize)
-    ∷ untold31 (listCall (program [] 1) (old 3) (old 2)) (old 2) (old 3)
-    ∷ untold31 (packCall (programOf "STOP") (old imageSize) (old 2)) (old 2) (zeros imageSize)
-    ∷ untold31 (packCall (program [] 1) (old imageSize) []) [] (zeros imageSize)
-    ∷ untold31 (unpackCall [] (old maxProgram) (old 4)) (old 4) (zeros maxProgram)
-    ∷ untold31 (unpackCall [] (old 1) (old 2)) (old 2) (old 1)
+    isUntold (assembleCall (text "STOP") (old maxProgram) (old 3)) (old 3) (zeros maxProgram)
+    ∷ isUntold (assembleCall (text "FOO") (old maxProgram) (old 5)) (old 5) (zeros maxProgram)
+    ∷ isUntold (assembleCall (text "STOP") (old 2) []) [] (old 2)
+    ∷ isUntold (listCall (programOf "STOP") (old listingSize) []) [] (zeros listingSize)
+    ∷ isUntold (listCall (program [] 1) (old 3) (old 2)) (old 2) (old 3)
+    ∷ isUntold (packCall (programOf "STOP") (old imageSize) (old 2)) (old 2) (zeros imageSize)
+    ∷ isUntold (packCall (program [] 1) (old imageSize) []) [] (zeros imageSize)
+    ∷ isUntold (unpackCall [] (old maxProgram) (old 4)) (old 4) (zeros maxProgram)
+    ∷ isUntold (unpackCall [] (old 1) (old 2)) (old 2) (old 1)
     -- "Reset: 11 before 10.": no cells, tags of another count, a history of 8,193 places; then registers of another length
     ∷ resets 11 7 0 0 0
     ∷ resets 11 7 2 1 0

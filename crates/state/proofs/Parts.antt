@@ -13,7 +13,7 @@ use Rattle.rules.proofs.Tests.{every-at, drop-next}
 use Rattle.rules.proofs.Fair.{Sound}
 use Rattle.rules.proofs.FairEffects.{sound-facts}
 use Rattle.rules.proofs.Tests.{and-then}
-use Rattle.state.specs.Parts.{Held}
+use Rattle.state.specs.Held.{Held}
 
 -- ---- the loop over the cells: one cell more, and no cell left
 

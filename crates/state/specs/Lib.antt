@@ -1,3 +1,3 @@
--- The tests of a state in parts, and a call's answer with what it leaves.
-pub mod Parts
+-- What a call leans on in a sound state, and its answer with what it leaves.
+pub mod Held
 pub mod Outcomes

@@ -95,13 +95,20 @@ same-length-5 c = search needs
 
 returns-3 : tie.Need-returns-3
 returns-3 c =
-    let a = c .before .before .before .before .before .before .before .before .before .before .before .before .before .before .before .before .before .before .before .before .before .args in
+    let at-commit = c .before .before .before .before .before .before .before in
+    let at-if2 = at-commit .before .before .before .before in
+    let at-has-room = at-if2 .before in
+    let at-rare-effect = at-has-room .before in
+    let at-if1 = at-rare-effect .before .before .before in
+    let at-is-high = at-if1 .before in
+    let start = at-is-high .before .before .before .before in
+    let a = start .args in
     let m = memory (a .bits .now) (a .tags .now) (a .history .now) in
     let e = (rarely (a .d .rare) (a .r) (cellAt (m .cells) (record { 0 = a .d .at })) (a .d)) in
     let s : e .sp ≡ a .d .sp = rarely-sp (a .d .rare) (a .r) (cellAt (m .cells) (record { 0 = a .d .at })) (a .d) in
-    let low : e .sp < a .r .n = let h = (leb-false (a .r .n) (a .d .sp) (sym (c .before .before .before .before .before .before .before .before .before .before .before .before .before .before .before .before .before .is-high .ensures) ∙ c .before .before .before .before .before .before .before .before .before .before .before .before .before .before .before .before .if1 .left)) in omega (arith, s, h) in
-    let done = rw (c .before .before .before .before .before .before .before .before .before .before .before .before .before .rare-effect .ensures) at (c .before .before .before .before .before .before .before .commit .ensures) in
-    carried-does (a .r) m _ e _ _ (c .made .ensures) low (ap (roomFor (a .r)) (sym (c .before .before .before .before .before .before .before .before .before .before .before .before .before .rare-effect .ensures)) ∙ sym (c .before .before .before .before .before .before .before .before .before .before .before .before .has-room .ensures) ∙ not-false _ (c .before .before .before .before .before .before .before .before .before .before .before .if2 .left)) (done .0) (done .1)
+    let low : e .sp < a .r .n = let h = (leb-false (a .r .n) (a .d .sp) (sym (at-is-high .is-high .ensures) ∙ at-if1 .if1 .left)) in omega (arith, s, h) in
+    let done = rw (at-rare-effect .rare-effect .ensures) at (at-commit .commit .ensures) in
+    carried-does (a .r) m _ e _ _ (c .made .ensures) low (ap (roomFor (a .r)) (sym (at-rare-effect .rare-effect .ensures)) ∙ sym (at-has-room .has-room .ensures) ∙ not-false _ (at-if2 .if2 .left)) (done .0) (done .1)
 
 pub carry-rare-spec : {M : Type 1} → statement M
 carry-rare-spec =

@@ -43,16 +43,23 @@ shared-slice-read-decide-at c =
 
 decide-at-requires : tie.Need-decide-at-requires
 decide-at-requires c κs =
-    let a = c .before .before .before .before .before .before .before .before .before .before .args in
+    let at-if2 = c .before .before .before in
+    let at-if1 = at-if2 .before in
+    let start = at-if1 .before .before .before .before .before .before in
+    let a = start .args in
     let m = memory (a .bits .now) (a .tags .now) (a .history .now) in
     let p = program (a .table .now) (a .count) in
-    (small p (a .r) m (c .before .before .before .before .before .before .before .before .before .before .pre), live p (a .r) m (c .before .before .before .before .before .before .before .before .before .before .pre), coded p (a .r) m (c .before .before .before .before .before .before .before .before .before .before .pre) (c .before .before .before .before .if1 .left) (c .before .before .before .if2 .left))
+    (small p (a .r) m (start .pre), live p (a .r) m (start .pre), coded p (a .r) m (start .pre) (at-if1 .if1 .left) (at-if2 .if2 .left))
 
 carry-requires : tie.Need-carry-requires
 carry-requires c κs e q =
-    let a = c .before .before .before .before .before .before .before .before .before .before .before .before .before .before .args in
-    opens (program (a .table .now) (a .count)) (a .r) (memory (a .bits .now) (a .tags .now) (a .history .now)) (c .before .before .before .before .before .before .before .before .before .before .before .before .before .before .pre) (c .before .before .before .before .before .before .before .before .if1 .left) (c .before .before .before .before .before .before .before .if2 .left) e
-    (sym (c .before .before .before .decide-at .ensures) ∙ q)
+    let at-decide-at = c .before .before .before in
+    let at-if2 = at-decide-at .before .before .before .before in
+    let at-if1 = at-if2 .before in
+    let start = at-if1 .before .before .before .before .before .before in
+    let a = start .args in
+    opens (program (a .table .now) (a .count)) (a .r) (memory (a .bits .now) (a .tags .now) (a .history .now)) (start .pre) (at-if1 .if1 .left) (at-if2 .if2 .left) e
+    (sym (at-decide-at .decide-at .ensures) ∙ q)
 
 same-length : tie.Need-same-length
 same-length c = search needs
@@ -65,12 +72,17 @@ same-length-3 c = search needs
 
 returns-3 : tie.Need-returns-3
 returns-3 c =
-    let a = c .before .before .before .before .before .before .before .before .before .before .before .before .before .before .before .before .before .before .before .before .before .args in
+    let at-carry = c .before .before .before .before .before .before in
+    let at-decide-at = at-carry .before .before .before .before in
+    let at-if2 = at-decide-at .before .before .before .before in
+    let at-if1 = at-if2 .before in
+    let start = at-if1 .before .before .before .before .before .before in
+    let a = start .args in
     let m = memory (a .bits .now) (a .tags .now) (a .history .now) in
-    c .before .before .before .before .before .before .carry .ensures
+    at-carry .carry .ensures
     ∙ ap (λ (z : Decision). carried (a .r) m (fitted (a .r) z))
-    (c .before .before .before .before .before .before .before .before .before .before .decide-at .ensures)
-    ∙ sym (step-carries (program (a .table .now) (a .count)) (a .r) m (c .before .before .before .before .before .before .before .before .before .before .before .before .before .before .before .before .before .before .before .before .before .pre) (c .before .before .before .before .before .before .before .before .before .before .before .before .before .before .before .if1 .left) (c .before .before .before .before .before .before .before .before .before .before .before .before .before .before .if2 .left))
+    (at-decide-at .decide-at .ensures)
+    ∙ sym (step-carries (program (a .table .now) (a .count)) (a .r) m (start .pre) (at-if1 .if1 .left) (at-if2 .if2 .left))
 
 pub take-turn-spec : {M : Type 1} → statement M
 take-turn-spec =

@@ -1,5 +1,5 @@
 -- `sam_assemble` meets its contract: what the assembler answers and leaves, with the length and the position told. Assumes nothing.
-use mathlib.Core.Path.{sym, _∙_}
+use mathlib.Core.Path.{_∙_}
 use borrow.Author.Needs.{needs}
 use Rattle.rules.specs.Sizes.{maxProgram}
 use Rattle.rules.specs.Numbers.{numberOfAssembled, lengthOfAssembled, positionOfAssembled}

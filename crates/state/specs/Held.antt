@@ -1,11 +1,11 @@
--- What the lent slices and the registers are in a sound state. Assumes nothing.
+-- What a call leans on, in a sound state, when it reads and writes the lent slices. Assumes nothing.
 use Prim.Native.Nat.{_≤_}
 use mathlib.Core.Path.{_≡_}
 use lib.ListN.{length}
 use Rattle.rules.specs.State.{Memory}
 use Rattle.rules.specs.declared.Registers.{Registers}
 
--- what the lent slices and the registers are in a sound state: the part of it that a call leans on when it reads and writes them
+-- each slice has its length, the places used are within the history, and none are where no step is kept
 pub record Held (r : Registers) (m : Memory) : Type 0 where
   pub cells : length (m .cells .bits) ≡ r .n
   pub tagged : length (m .cells .tags) ≡ r .n
