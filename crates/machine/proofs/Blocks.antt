@@ -1,19 +1,17 @@
 -- The blocks of a commit: its cells, its cell places and its record. Assumes nothing.
 use Prim.Native.Nat.{ℕ, zero, suc, _+_, _-_, _≤_, _<_}
 use mathlib.Core.Path.{_≡_, sym, ap, ap₂, _∙_}
-use mathlib.Core.Bool.{Bool, true}
+use mathlib.Core.Bool.{Bool}
 use mathlib.Core.List.{List, [], _∷_, _++_}
 use native.Mathlib.Nat.{le-of-suc-le-suc, not-suc-le-zero, add-zero}
 use native.Mathlib.Omega.{arith}
 use lib.ListN.{length, getD, drop, set, replicate, length-set, length-replicate}
 use lib.Dec.{ltb}
-use borrow.Author.Tests.{lt-ltb, le-ltb, leb-true}
+use borrow.Author.Tests.{lt-ltb, le-ltb}
 use lib.Seq.{getD-take, getD-drop}
 use Rattle.rules.specs.Lists.{part, splice}
 use Rattle.rules.specs.Places.{cellPlace}
-use Rattle.rules.specs.Commit.{block, cellPlaces, grown, historyAfter, roomIn, roomFor}
-use Rattle.rules.specs.declared.Registers.{Registers}
-use Rattle.rules.specs.declared.Effect.{Effect}
+use Rattle.rules.specs.Commit.{block, cellPlaces, grown, historyAfter}
 use Rattle.rules.proofs.Sound.{length-places}
 use Rattle.rules.proofs.Zeros.{take-zeros}
 use Rattle.rules.proofs.Splice.{length-part, splice-beside, splice-none, sets-splice}
@@ -27,10 +25,10 @@ block-more (suc (suc n)) x y h =
     let e : n ≡ suc (suc n) - 2 = omega arith in
     ap (λ (l : List ℕ). x ∷ y ∷ l) (take-zeros n (suc (suc n)) (omega arith) ∙ ap (λ (k : ℕ). replicate k 0) e)
 
-module _ (l : List ℕ) (at n x y : ℕ) (h : at + n ≤ length l) where
-  pub put-none : n ≡ 0 → l ≡ splice l at (block n x y)
-  put-none e = sym (splice-none l at) ∙ ap (λ (k : ℕ). splice l at (block k x y)) (sym e)
+pub put-none : (l : List ℕ) (at n x y : ℕ) → n ≡ 0 → l ≡ splice l at (block n x y)
+put-none l at n x y e = sym (splice-none l at) ∙ ap (λ (k : ℕ). splice l at (block k x y)) (sym e)
 
+module _ (l : List ℕ) (at n x y : ℕ) (h : at + n ≤ length l) where
   pub put-one : n ≡ 1 → set l at x ≡ splice l at (block n x y)
   put-one e = sets-splice (x ∷ []) l at (omega arith) ∙ ap (λ (k : ℕ). splice l at (block k x y)) (sym e)
 
@@ -88,9 +86,3 @@ module _ (h : ℕ) (l : List ℕ) (u : ℕ) (added : List ℕ) where
 
   pub history-more : (h ≡ 0 → ⊥) → splice l u added ≡ historyAfter (ltb 0 h) l u added
   history-more e = ap (λ (t : Bool). historyAfter t l u added) (sym (lt-ltb 0 h (omega (arith, e))))
-
--- room for the record
-pub room-free : (r : Registers) (e : Effect) → (r .h ≡ 0 → ⊥) → roomFor r e ≡ true → e .count + 1 ≤ r .h - r .used
-room-free r e h k =
-    leb-true _ _
-    (ap (λ (t : Bool). roomIn t (r .h - r .used) (e .count + 1)) (sym (lt-ltb 0 (r .h) (omega (arith, h)))) ∙ k)

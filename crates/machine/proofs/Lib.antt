@@ -1,7 +1,8 @@
 pub mod Blocks
 pub mod Signed
 pub mod Reach
-pub mod Pairs
+pub mod Values
+pub mod Stages
 pub mod Steps
 pub mod Carries
 pub mod Turns

@@ -63,10 +63,10 @@ few-taken s (negsuc k) e =
 
 module _ (r : Registers) (n : ℕ) where
   -- ---- ADDSP
-  pub add-to : (a : MemoryAddress) → To a ≡ reachOf (pos (r .sp) +ℤ signed n) → Does (moved r (r .sp) a) ≡ onOperand addSp r n (int 0)
+  pub add-to : (a : MemoryAddress) → To a ≡ reachOf (pos (r .sp) +ℤ signed n) → onOperand addSp r n (int 0) ≡ Does (moved r (r .sp) a)
   add-to a e = rw (enough-taken (r .sp) (signed n) a e, reached (pos (r .sp) +ℤ signed n) a e) refl
 
-  pub add-below : Below ≡ reachOf (pos (r .sp) +ℤ signed n) → Refuses TooFewValues ≡ onOperand addSp r n (int 0)
+  pub add-below : Below ≡ reachOf (pos (r .sp) +ℤ signed n) → onOperand addSp r n (int 0) ≡ Refuses TooFewValues
   add-below e = rw (few-taken (r .sp) (signed n) e) refl
 
   -- ---- an address from FBR

@@ -1,26 +1,24 @@
 -- A step in each of its cases, and what a sound state gives to the parts of a step. Assumes nothing.
-use Prim.Native.Nat.{ℕ, _+_, _-_, _≤_, _<_}
+use Prim.Native.Nat.{ℕ, _<_}
 use mathlib.Core.Path.{_≡_, refl, sym, ap, _∙_, subst}
-use mathlib.Core.Bool.{Bool, true, false}
+use mathlib.Core.Bool.{true, false}
 use mathlib.Core.List.{List}
-use native.Mathlib.Numerals.{add-one}
 use native.Mathlib.Omega.{arith}
 use lib.Arith.{lt-of-le-ne}
 use lib.ListN.{length, getD}
-use lib.Dec.{leb, ltb}
-use borrow.Author.Tests.{lt-ltb, le-ltb, eq-eqb, ne-eqb, ltb-true}
+use lib.Dec.{ltb}
+use borrow.Author.Tests.{eq-eqb, ne-eqb, ltb-true}
 use Rattle.rules.specs.Instructions.{codes, kindOf}
 use Rattle.rules.specs.Table.{Program, codeOf, operandOf, within, soundPlace}
 use Rattle.rules.specs.State.{Memory, memory, sound}
-use Rattle.rules.specs.Commit.{roomIn, roomFor, registersOf}
-use Rattle.rules.specs.Decide.{demand}
+use Rattle.rules.specs.Commit.{registersOf}
 use Rattle.rules.specs.Step.{decideAt, fitted, judged, unchanged, carried, step, plainStep}
 use Rattle.rules.specs.declared.Registers.{Registers}
 use Rattle.rules.specs.declared.Effect.{Effect}
 use Rattle.rules.specs.declared.Decision.{Decision}
 use Rattle.rules.specs.declared.Decision.the-variants.{Does, Refuses}
 use Rattle.rules.specs.declared.MachineRefusal.{MachineRefusal}
-use Rattle.rules.specs.declared.MachineRefusal.the-variants.{AlreadyHalted, AtEnd, StackFull, HistoryFull, Broken}
+use Rattle.rules.specs.declared.MachineRefusal.the-variants.{AlreadyHalted, AtEnd, Broken}
 use Rattle.rules.specs.declared.Step.{Step}
 use Rattle.rules.specs.declared.Step.the-variants.{Next, Refused}
 use Rattle.rules.proofs.Fair.{Sound}
@@ -31,31 +29,10 @@ use Rattle.rules.proofs.Sound.{step-plain, sound-step}
 use Rattle.state.specs.Outcomes.{stepped}
 use Rattle.machine.specs.Small.{Small}
 use Rattle.machine.specs.Live.{Live}
-use Rattle.machine.specs.Fits.{Open}
-
--- ---- 7 and 8
-
-module _ (r : Registers) (e : Effect) where
-  pub room-none : r .h ≡ 0 → true ≡ roomFor r e
-  room-none h = ap (λ (t : Bool). roomIn t (r .h - r .used) (e .count + 1)) (sym (le-ltb 0 (r .h) (omega (arith, h))))
-
-  pub room-some : (r .h ≡ 0 → ⊥) → ltb (e .count) (r .h - r .used) ≡ roomFor r e
-  room-some h =
-      ap (λ (n : ℕ). leb n (r .h - r .used)) (sym (add-one (e .count)))
-      ∙ ap (λ (t : Bool). roomIn t (r .h - r .used) (e .count + 1)) (sym (lt-ltb 0 (r .h) (omega (arith, h))))
-
-  pub fitted-high : r .n ≤ e .sp → fitted r (Does e) ≡ Refuses StackFull
-  fitted-high h = ap (λ (t : Bool). demand t StackFull (demand (roomFor r e) HistoryFull (Does e))) (le-ltb (e .sp) (r .n) h)
-
-  module _ (low : e .sp < r .n) where
-    fitted-low : fitted r (Does e) ≡ demand (roomFor r e) HistoryFull (Does e)
-    fitted-low = ap (λ (t : Bool). demand t StackFull (demand (roomFor r e) HistoryFull (Does e))) (lt-ltb (e .sp) (r .n) low)
-
-    pub fitted-full : roomFor r e ≡ false → fitted r (Does e) ≡ Refuses HistoryFull
-    fitted-full h = fitted-low ∙ ap (λ (t : Bool). demand t HistoryFull (Does e)) h
-
-    pub fitted-fits : roomFor r e ≡ true → fitted r (Does e) ≡ Does e
-    fitted-fits h = fitted-low ∙ ap (λ (t : Bool). demand t HistoryFull (Does e)) h
+use Rattle.machine.specs.Fields.{Fields}
+use Rattle.machine.specs.Fits.{Fits}
+use Rattle.machine.specs.Stages.{stacked, roomed}
+use Rattle.machine.proofs.Stages.{staged, stacked-does}
 
 module _ (p : Program) (r : Registers) (m : Memory) where
   -- ---- "1 to 8 in order"
@@ -84,7 +61,12 @@ module _ (p : Program) (r : Registers) (m : Memory) where
     small =
         let f : Sound p r m = sound-facts p r m s in
         let short = table-short p (f .table) in
-        (omega (arith, f .pc, short), omega (arith, f .sp, f .few), omega (arith, f .fbr, f .few))
+        (omega (arith, f .pc, short), omega (arith, f .sp, f .few), omega (arith, f .fbr, f .few), f .sp)
+
+    fields : Fields r (m .cells .tags)
+    fields =
+        let f : Sound p r m = sound-facts p r m s in
+        record { small = small; few = omega (arith, f .tags, f .few); tag = λ k. let h = f .cells k .tag in omega (arith, h) }
 
     pub live : Live r (m .cells .bits) (m .cells .tags)
     live =
@@ -118,20 +100,22 @@ module _ (p : Program) (r : Registers) (m : Memory) where
       unfolding soundPlace
       coded = ltb-true (codeOf place) codes (and-left (ltb (codeOf place) codes) (within (kindOf (codeOf place)) (p .count) (operandOf place)) place-fits)
 
-      pub opens : (e : Effect) → decideAt r (m .cells) (getD (p .places) (r .pc) 0) ≡ Does e → Open r e m
-      opens e q =
+      pub fits : (e : Effect) → stacked r (decideAt r (m .cells) (getD (p .places) (r .pc) 0)) ≡ Does e → Fits r e m
+      fits e q =
           let f : Sound p r m = sound-facts p r m s in
+          let does = stacked-does r (decideAt r (m .cells) place) e q in
           record {
             cells = f .bits;
             tagged = f .tags;
+            fields = fields;
             places = f .history;
             used = f .used;
             kept = f .kept;
-            block = λ h. fair-place p r m f below place e place-fits q h .fits;
+            block = fair-place p r m f below place e place-fits (does .0) (does .1) .fits;
           }
 
-      pub step-carries : step p r m ≡ carried r m (fitted r (decideAt r (m .cells) (getD (p .places) (r .pc) 0)))
-      step-carries = carries ∙ ap (carried r m) (judged-fitted running inside)
+      pub step-carries : step p r m ≡ carried r m (roomed r (stacked r (decideAt r (m .cells) (getD (p .places) (r .pc) 0))))
+      step-carries = carries ∙ ap (carried r m) (judged-fitted running inside ∙ staged r (decideAt r (m .cells) place))
 
     -- what an accepted step leaves is sound, and a refused step leaves what was
     module _ (bits tags history : List ℕ) where

@@ -1,9 +1,10 @@
 -- The turns of a run with what is left of the limit as a difference, as the run's loop has it. Assumes nothing.
-use Prim.Native.Nat.{ℕ, zero, suc, _+_, _-_, _≤_, _<_}
-use mathlib.Core.Path.{_≡_, refl, sym, ap, _∙_}
-use mathlib.Core.Bool.{Bool, true, false}
+use Prim.Native.Nat.{ℕ, suc, _+_, _-_, _≤_, _<_}
+use mathlib.Core.Path.{_≡_, refl, sym, ap, ap₂, _∙_}
+use mathlib.Core.Bool.{true, false}
 use mathlib.Core.List.{List}
 use native.Mathlib.Omega.{arith}
+use lib.ListN.{length}
 use lib.Dec.{eqb}
 use borrow.Author.Tests.{eq-eqb, ne-eqb}
 use Rattle.rules.specs.Table.{Program}
@@ -17,64 +18,116 @@ use Rattle.rules.specs.declared.Step.the-variants.{Next, Refused}
 use Rattle.rules.specs.declared.Run.{Run}
 use Rattle.rules.specs.declared.Ending.the-variants.{Halted, LimitReached, Stopped}
 use Rattle.rules.proofs.Tests.{by-test}
+use Rattle.rules.proofs.Fair.{Sound}
+use Rattle.rules.proofs.FairEffects.{sound-facts}
 use Rattle.rules.proofs.Runs.{run-halted, run-limit, run-next, run-refused}
 use Rattle.state.specs.Outcomes.{stepped}
 use Rattle.machine.specs.Outcomes.{ran, onlyStep}
-use Rattle.machine.specs.Turn.{answered, answerOf}
-use Rattle.machine.specs.declared.turn.Turn.{Turn}
-use Rattle.machine.proofs.Steps.{refused-keeps}
+use Rattle.machine.proofs.Steps.{next-sound, refused-keeps}
 
-pub turn-first : (p : Program) (limit : ℕ) (r : Registers) (m : Memory) → runFrom p (limit - 0) 0 r m ≡ runFrom p limit 0 r m
-turn-first p limit r m = let e : limit - 0 ≡ limit = omega arith in ap (λ (n : ℕ). runFrom p n 0 r m) e
+halted-is : (p : Program) (r : Registers) (m : Memory) → sound p r m ≡ true → (r .halt ≡ 0 → ⊥) → eqb (r .halt) 1 ≡ true
+halted-is p r m s h =
+    let f : Sound p r m = sound-facts p r m s in
+    let b = f .halt in
+    eq-eqb (r .halt) 1 (omega (arith, h, b))
 
--- ---- a turn's answer
+-- ---- where the run's loop stands: `left` of the limit is to make, from registers and a memory that are sound and not halted
 
-pub turn-made : (t : Turn) → t .made ≡ true → answerOf t ≡ Next (t .registers)
-turn-made t h = ap (λ (b : Bool). answered b (t .refusal) (t .registers)) h
+pub record Reached (p : Program) (limit : ℕ) (r₀ : Registers) (m₀ : Memory) (left : ℕ) (r : Registers) (m : Memory) : Type 0 where
+  pub within : left ≤ limit
+  pub good : sound p r m ≡ true
+  pub running : r .halt ≡ 0
+  pub whole : runFrom p left (limit - left) r m ≡ runFrom p limit 0 r₀ m₀
+  pub bits : length (m .cells .bits) ≡ length (m₀ .cells .bits)
+  pub tags : length (m .cells .tags) ≡ length (m₀ .cells .tags)
+  pub history : length (m .history) ≡ length (m₀ .history)
 
-pub turn-stopped : (t : Turn) → t .made ≡ false → answerOf t ≡ Refused (t .refusal)
-turn-stopped t h = ap (λ (b : Bool). answered b (t .refusal) (t .registers)) h
+module _ (p : Program) (limit : ℕ) (r₀ : Registers) (m₀ : Memory) where
+  pub start-halted : sound p r₀ m₀ ≡ true → (r₀ .halt ≡ 0 → ⊥) → ended 0 Halted r₀ m₀ ≡ runFrom p limit 0 r₀ m₀
+  start-halted s h = sym (run-halted p 0 r₀ m₀ limit (halted-is p r₀ m₀ s h))
 
--- ---- the turns of the loop
+  pub reached-start : sound p r₀ m₀ ≡ true → r₀ .halt ≡ 0 → Reached p limit r₀ m₀ limit r₀ m₀
+  reached-start s h =
+      let none : limit - limit ≡ 0 = omega arith in
+      record {
+        within = omega arith;
+        good = s;
+        running = h;
+        whole = ap (λ (n : ℕ). runFrom p limit n r₀ m₀) none;
+        bits = refl;
+        tags = refl;
+        history = refl;
+      }
 
-module _ (p : Program) (limit made : ℕ) (r : Registers) (m : Memory) where
-  pub turn-halted : r .halt ≡ 1 → ended made Halted r m ≡ runFrom p (limit - made) made r m
-  turn-halted h = sym (run-halted p made r m (limit - made) (eq-eqb (r .halt) 1 h))
+  module _ (left : ℕ) (r : Registers) (m : Memory) (o : Reached p limit r₀ m₀ left r m) where
+    going : eqb (r .halt) 1 ≡ false
+    going = ne-eqb (r .halt) 1 (omega (arith, o .running))
 
-  module _ (going : r .halt ≡ 1 → ⊥) where
-    pub turn-limit : limit ≤ made → ended made LimitReached r m ≡ runFrom p (limit - made) made r m
-    turn-limit h =
-        let e : zero ≡ limit - made = omega arith in
-        sym (run-limit p made r m (ne-eqb (r .halt) 1 going)) ∙ ap (λ (n : ℕ). runFrom p n made r m) e
+    -- the limit is made
+    pub reached-limit : left ≤ 0 → ended limit LimitReached r m ≡ runFrom p limit 0 r₀ m₀
+    reached-limit h =
+        let none : left ≡ 0 = omega arith in
+        let made : limit ≡ limit - left = omega arith in
+        sym (run-limit p limit r m going) ∙ ap₂ (λ (k n : ℕ). runFrom p k n r m) (sym none) made ∙ o .whole
 
-    module _ (low : made < limit) where
-      left : limit - made ≡ suc (limit - (made + 1))
-      left = omega arith
+    -- a step is made or refused
+    module _ (low : 0 < left) (bits tags history : List ℕ) where
+      begun : runFrom p (suc (left - 1)) (limit - left) r m ≡ runFrom p limit 0 r₀ m₀
+      begun = let one : suc (left - 1) ≡ left = omega arith in ap (λ (n : ℕ). runFrom p n (limit - left) r m) one ∙ o .whole
 
-      pub turn-next : (a : Step) (q : Registers) (bits tags history : List ℕ) → a ≡ Next q → stepped a bits tags history ≡ step p r m
-          → runFrom p (limit - made) made r m ≡ runFrom p (limit - (made + 1)) (made + 1) q (memory bits tags history)
-      turn-next a q bits tags history k e =
-          ap (λ (n : ℕ). runFrom p n made r m) left
-          ∙ run-next p made r m (limit - (made + 1)) (ne-eqb (r .halt) 1 going) q (sym (ap (λ x. x .answer) e) ∙ k)
-          ∙ ap (runFrom p (limit - (made + 1)) (made + 1) q) (sym (ap (λ x. x .memory) e))
+      pub reached-refused : (a : Step) (x : MachineRefusal) → a ≡ Refused x → stepped a bits tags history ≡ step p r m
+          → ended (limit - left) (Stopped x) r (memory bits tags history) ≡ runFrom p limit 0 r₀ m₀
+      reached-refused a x k e =
+          ap (ended (limit - left) (Stopped x) r) (refused-keeps p r m (o .good) bits tags history a x k e)
+          ∙ sym (run-refused p (limit - left) r m (left - 1) going x (sym (ap (λ s. s .answer) e) ∙ k))
+          ∙ begun
 
-      pub turn-refused : (a : Step) (x : MachineRefusal) (bits tags history : List ℕ) → sound p r m ≡ true → a ≡ Refused x
-          → stepped a bits tags history ≡ step p r m
-          → ended made (Stopped x) r (memory bits tags history) ≡ runFrom p (limit - made) made r m
-      turn-refused a x bits tags history s k e =
-          ap (ended made (Stopped x) r) (refused-keeps p r m s bits tags history a x k e)
-          ∙ sym
-          (ap (λ (n : ℕ). runFrom p n made r m) left
-          ∙ run-refused p made r m (limit - (made + 1)) (ne-eqb (r .halt) 1 going) x (sym (ap (λ x. x .answer) e) ∙ k))
+      module _ (a : Step) (q : Registers) (k : a ≡ Next q) (e : stepped a bits tags history ≡ step p r m) where
+        after-sound : sound p q (memory bits tags history) ≡ true
+        after-sound = next-sound p r m (o .good) bits tags history a q k e
+
+        after-whole : runFrom p (left - 1) (limit - (left - 1)) q (memory bits tags history) ≡ runFrom p limit 0 r₀ m₀
+        after-whole =
+            let w = o .within in
+            let more : limit - (left - 1) ≡ limit - left + 1 = omega (arith, w) in
+            ap₂ (λ (n : ℕ) (z : Memory). runFrom p (left - 1) n q z) more (ap (λ s. s .memory) e)
+            ∙ sym (run-next p (limit - left) r m (left - 1) going q (sym (ap (λ s. s .answer) e) ∙ k))
+            ∙ begun
+
+        pub next-halted : (q .halt ≡ 0 → ⊥) → ended (limit - (left - 1)) Halted q (memory bits tags history) ≡ runFrom p limit 0 r₀ m₀
+        next-halted h =
+            sym (run-halted p (limit - (left - 1)) q (memory bits tags history) (left - 1) (halted-is p q (memory bits tags history) after-sound h))
+            ∙ after-whole
+
+        module _ (kb : length bits ≡ length (m .cells .bits)) (kt : length tags ≡ length (m .cells .tags)) (kh : length history ≡ length (m .history)) where
+          -- N and H are the lengths of the lent slices
+          pub next-sizes : sound p r₀ m₀ ≡ true → (q .n ≡ r₀ .n) × (q .h ≡ r₀ .h)
+          next-sizes s =
+              let f₀ : Sound p r₀ m₀ = sound-facts p r₀ m₀ s in
+              let f : Sound p q (memory bits tags history) = sound-facts p q (memory bits tags history) after-sound in
+              (sym (f .bits) ∙ kb ∙ o .bits ∙ f₀ .bits, sym (f .history) ∙ kh ∙ o .history ∙ f₀ .history)
+
+          pub reached-next : q .halt ≡ 0 → Reached p limit r₀ m₀ (left - 1) q (memory bits tags history)
+          reached-next h =
+              let w = o .within in
+              record {
+                within = omega (arith, w);
+                good = after-sound;
+                running = h;
+                whole = after-whole;
+                bits = kb ∙ o .bits;
+                tags = kt ∙ o .tags;
+                history = kh ∙ o .history;
+              }
 
 -- ---- a run of one step is that step
 
 abbrev onceBy : Ran → Stepped
 onceBy ran = record { answer = onlyStep (ran .answer .ending) (ran .answer .registers); memory = ran .memory }
 
-module _ (p : Program) (r : Registers) (m : Memory) (s : sound p r m ≡ true) (going : r .halt ≡ 0) where
+module _ (p : Program) (r : Registers) (m : Memory) (s : sound p r m ≡ true) (running : r .halt ≡ 0) where
   not-halted : eqb (r .halt) 1 ≡ false
-  not-halted = ne-eqb (r .halt) 1 (omega (arith, going))
+  not-halted = ne-eqb (r .halt) 1 (omega (arith, running))
 
   -- after the one step the run ends, halted or not
   one-left : (q : Registers) (m′ : Memory) → onceBy (runFrom p 0 1 q m′) ≡ record { answer = Next q; memory = m′ }

@@ -1,10 +1,11 @@
 -- What the inner contracts of `machine` cite.
 pub mod Small
 pub mod Live
-pub mod Paired
+pub mod Values
 pub mod Reach
+pub mod Stages
 pub mod Plan
 pub mod Families
-pub mod Turn
+pub mod Fields
 pub mod Fits
 pub mod Outcomes

@@ -1,68 +1,88 @@
 -- What a plan means: the rules' decision, given the cells as they stand. Assumes nothing.
-use Prim.Native.Nat.{ℕ}
+use Prim.Native.Nat.{ℕ, _+_, _-_}
 use mathlib.Core.Path.{_≡_}
+use Rattle.rules.specs.Tags.{int, ma, pa}
 use Rattle.rules.specs.Cells.{Cells, cellAt}
-use Rattle.rules.specs.Effects.{nothing, cell, pair, zeros, effect}
+use Rattle.rules.specs.Effects.{Written, nothing, cell, pair, zeros, effect}
 use Rattle.rules.specs.declared.Cell.{Cell}
 use Rattle.rules.specs.declared.Registers.{Registers}
 use Rattle.rules.specs.declared.Effect.{Effect}
 use Rattle.rules.specs.declared.Decision.{Decision}
 use Rattle.rules.specs.declared.Decision.the-variants.{Does, Refuses}
 use Rattle.rules.specs.declared.MachineRefusal.the-variants as refusal
+use Rattle.machine.specs.Stages.{stacked}
 use Rattle.machine.specs.declared.plans.Plan.{Plan}
-use Rattle.machine.specs.declared.plans.Rare as rares
 use Rattle.machine.specs.declared.plans.Shape.{Shape}
-use Rattle.machine.specs.declared.plans.Shape.the-variants.{Jump, Write, Rare, TooFewValues, WrongTag, NoResult, BadAddress}
-use Rattle.machine.specs.declared.plans.Rare.the-variants.{Swap, Fill, Frame, Link, Halt}
+use Rattle.machine.specs.declared.plans.Shape.the-variants.{Jump, Move, Frame, Halt, Result, Store, Call, Link, Swap, Fill, TooFewValues, WrongTag, NoResult, BadAddress, StackFull}
 
--- the cell to write
+-- the cell to write, and the one that is so many below SP
 abbrev pub cellOf : Plan → Cell
 cellOf d = record { bits = d .bits; tag = d .tag }
 
--- PC and SP alone, and one cell
-abbrev pub jumps : Registers → ℕ → ℕ → Effect
-jumps r pc sp = effect pc sp (r .fbr) 0 nothing
+abbrev pub below : Registers → Cells → ℕ → Cell
+below r c k = cellAt c (record { 0 = r .sp - k })
 
-abbrev pub writes : Registers → Plan → Effect
-writes r d = effect (d .pc) (d .sp) (r .fbr) 0 (cell (d .at) (cellOf d))
+-- ---- the effects, one for each shape: no cell is written
 
--- the rarer effects: two cells, of which the second is the one that stood at the address; INT 0 up to SP; FBR; FBR and a cell; HALT
-abbrev pub swaps : Registers → Cell → Plan → Effect
-swaps r there d = effect (d .pc) (d .sp) (r .fbr) 0 (pair (d .at) (cellOf d) there)
+abbrev pub jumps : Registers → Plan → Effect
+jumps r d = effect (d .bits) (d .sp) (r .fbr) 0 nothing
+
+abbrev pub noneAt : ℕ → Written
+noneAt a = record { at = a; count = 0; first = int 0; second = int 0 }
+
+abbrev pub moves : Registers → Plan → Effect
+moves r d = effect (r .pc + 1) (d .sp) (r .fbr) 0 (noneAt (d .at))
+
+abbrev pub frames : Registers → Plan → Effect
+frames r d = effect (r .pc + 1) (d .sp) (d .at) 0 nothing
+
+abbrev pub halts : Registers → Effect
+halts r = effect (r .pc) (r .sp) (r .fbr) 1 nothing
+
+-- ---- one cell is
+
+abbrev pub results : Registers → Plan → Effect
+results r d = effect (r .pc + 1) (d .at + 1) (r .fbr) 0 (cell (d .at) (cellOf d))
+
+abbrev pub stores : Registers → Cells → Plan → Effect
+stores r c d = effect (r .pc + 1) (d .sp) (r .fbr) 0 (cell (d .at) (below r c 1))
+
+abbrev pub calls : Registers → Plan → Effect
+calls r d = effect (d .bits) (d .at + 1) (r .fbr) 0 (cell (d .at) (pa (r .pc + 1)))
+
+abbrev pub links : Registers → Effect
+links r = effect (r .pc + 1) (r .sp + 1) (r .sp) 0 (cell (r .sp) (ma (r .fbr)))
+
+-- ---- two cells, and INT 0 up to SP
+
+abbrev pub swaps : Registers → Cells → Effect
+swaps r c = effect (r .pc + 1) (r .sp) (r .fbr) 0 (pair (r .sp - 2) (below r c 1) (below r c 2))
 
 abbrev pub fills : Registers → Plan → Effect
-fills r d = effect (d .pc) (d .sp) (r .fbr) 0 (zeros (d .at) (d .sp))
+fills r d = effect (r .pc + 1) (d .sp) (r .fbr) 0 (zeros (d .at) (d .sp))
 
-abbrev pub frames : Plan → Effect
-frames d = effect (d .pc) (d .sp) (d .at) 0 nothing
+-- ---- each shape
 
-abbrev pub links : Registers → Plan → Effect
-links r d = effect (d .pc) (d .sp) (r .sp) 0 (cell (d .at) (cellOf d))
-
-abbrev pub halts : Registers → Plan → Effect
-halts r d = effect (d .pc) (d .sp) (r .fbr) 1 nothing
-
--- each of them, where `there` is the cell at the plan's address
-abbrev pub rarely : rares.Rare → Registers → Cell → Plan → Effect
-rarely Swap r there d = swaps r there d
-rarely Fill r there d = fills r d
-rarely Frame r there d = frames d
-rarely Link r there d = links r d
-rarely Halt r there d = halts r d
-
--- each shape
-abbrev pub shaped : Shape → Registers → Cell → Plan → Decision
-shaped Jump r there d = Does (jumps r (d .pc) (d .sp))
-shaped Write r there d = Does (writes r d)
-shaped Rare r there d = Does (rarely (d .rare) r there d)
-shaped TooFewValues r there d = Refuses refusal.TooFewValues
-shaped WrongTag r there d = Refuses refusal.WrongTag
-shaped NoResult r there d = Refuses refusal.NoResult
-shaped BadAddress r there d = Refuses refusal.BadAddress
+abbrev pub shaped : Shape → Registers → Cells → Plan → Decision
+shaped Jump r c d = Does (jumps r d)
+shaped Move r c d = Does (moves r d)
+shaped Frame r c d = Does (frames r d)
+shaped Halt r c d = Does (halts r)
+shaped Result r c d = Does (results r d)
+shaped Store r c d = Does (stores r c d)
+shaped Call r c d = Does (calls r d)
+shaped Link r c d = Does (links r)
+shaped Swap r c d = Does (swaps r c)
+shaped Fill r c d = Does (fills r d)
+shaped TooFewValues r c d = Refuses refusal.TooFewValues
+shaped WrongTag r c d = Refuses refusal.WrongTag
+shaped NoResult r c d = Refuses refusal.NoResult
+shaped BadAddress r c d = Refuses refusal.BadAddress
+shaped StackFull r c d = Refuses refusal.StackFull
 
 unfoldable pub planned : Registers → Cells → Plan → Decision
-planned r c d = shaped (d .shape) r (cellAt c (record { 0 = d .at })) d
+planned r c d = shaped (d .shape) r c d
 
--- a plan that means the decision whatever stands in the cells
+-- a plan that means the decision, with 7 asked of it, whatever stands in the cells
 abbrev pub Means : Registers → Plan → Decision → Type 0
-Means r d x = (c : Cells) → planned r c d ≡ x
+Means r d x = (c : Cells) → planned r c d ≡ stacked r x

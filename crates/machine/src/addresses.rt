@@ -1,9 +1,9 @@
 // Addresses of cells: "MA bits are read as two's complement", and the offsets from FBR; and the instructions that read or store by them.
 ghost use mathlib.Core.Path.{_≡_};
-ghost use Prim.Native.Nat.{_-_, _<_};
+ghost use Prim.Native.Nat.{_-_, _≤_, _<_};
 ghost use lib.IntN.{pos, _+ℤ_};
 ghost use Rattle.rules.specs.Words.{signed};
-ghost use Rattle.rules.specs.Cells.{cells};
+ghost use Rattle.rules.specs.Cells.{Cells, cells, cellAt};
 ghost use Rattle.rules.specs.Tags.{int};
 ghost use Rattle.rules.specs.Effects.{memoryAddress};
 ghost use Rattle.rules.specs.Decide.{onValues};
@@ -11,7 +11,8 @@ ghost use Rattle.rules.specs.Actions.{inside, addSp, pushInd, storeInd, pushOff
 ghost use Rattle.machine.specs.Families.{onPair, onOperand};
 ghost use Rattle.machine.specs.Small.{Small};
 ghost use Rattle.machine.specs.Live.{Live};
-ghost use Rattle.machine.specs.Plan.{Means};
+ghost use Rattle.machine.specs.Stages.{stacked};
+ghost use Rattle.machine.specs.Plan.{planned, Means};
 ghost use Rattle.machine.specs.Reach.{reachOf};
 use crate::cells;
 use crate::plans;
@@ -80,12 +81,9 @@ pub(crate) fn on_add_sp(r: Registers, offset: u32) -> Plan
 
 // The cell at an MA below SP-1 takes the MA's place.
 pub(crate) fn on_push_ind(r: Registers, bits: &[u32], tags: &[u8], top: Cell) -> Plan
-    requires { ⌜ Small r × Live r (now bits) (now tags) ⌝ }
+    requires { ⌜ Small r × Live r (now bits) (now tags) × (1 ≤ r .sp) ⌝ }
     ensures { λ d. ⌜ Means r d (onValues r (cells (now (bits .entry)) (now (tags .entry))) 0 (int 0) top pushInd) ⌝ }
 {
-    if r.sp < 1 {
-        return TOO_FEW_VALUES;
-    }
     if top.tag != tags::MA {
         return WRONG_TAG;
     }
@@ -97,20 +95,21 @@ pub(crate) fn on_push_ind(r: Registers, bits: &[u32], tags: &[u8], top: Cell) ->
 }
 
 // The top is stored at the MA below it.
-pub(crate) fn on_store_ind(r: Registers, below: Cell, top: Cell) -> Plan
-    requires { ⌜ Small r ⌝ }
-    ensures { λ d. ⌜ Means r d (onPair storeInd r below top) ⌝ }
+pub(crate) fn on_store_ind(r: Registers, bits: &[u32], tags: &[u8]) -> Plan
+    requires { ⌜ Small r × Live r (now bits) (now tags) ⌝ }
+    ensures { λ d. ⌜ ((c : Cells) → planned r c d ≡ stacked r (onPair storeInd r (cellAt (cells (now (bits .entry)) (now (tags .entry))) (record { 0 = r .sp - 2 })) (cellAt c (record { 0 = r .sp - 1 })))) ⌝ }
 {
     if r.sp < 2 {
         return TOO_FEW_VALUES;
     }
+    let below = cells::second(r, bits, tags);
     if below.tag != tags::MA {
         return WRONG_TAG;
     }
     if !inside(below.bits, r.sp - 2) {
         return BAD_ADDRESS;
     }
-    plans::stored(r, 2, memory_address(below.bits), top)
+    plans::stored(r, 2, memory_address(below.bits))
 }
 
 // The cell at FBR and an offset is pushed.
@@ -122,7 +121,7 @@ pub(crate) fn on_push_off(r: Registers, bits: &[u32], tags: &[u8], offset: u32) 
     match to {
         Reach::To(a) => {
             if a.0 < r.sp {
-                return plans::result(r, 0, cells::cell_at(bits, tags, a));
+                return plans::pushed(r, cells::cell_at(bits, tags, a));
             }
             BAD_ADDRESS
         }
@@ -131,9 +130,9 @@ pub(crate) fn on_push_off(r: Registers, bits: &[u32], tags: &[u8], offset: u32) 
 }
 
 // The top is stored at FBR and an offset.
-pub(crate) fn on_store_off(r: Registers, offset: u32, top: Cell) -> Plan
+pub(crate) fn on_store_off(r: Registers, offset: u32) -> Plan
     requires { ⌜ Small r ⌝ }
-    ensures { λ d. ⌜ Means r d (onOperand storeOff r offset top) ⌝ }
+    ensures { λ d. ⌜ ((c : Cells) → planned r c d ≡ stacked r (onOperand storeOff r offset (cellAt c (record { 0 = r .sp - 1 })))) ⌝ }
 {
     if r.sp < 1 {
         return TOO_FEW_VALUES;
@@ -142,7 +141,7 @@ pub(crate) fn on_store_off(r: Registers, offset: u32, top: Cell) -> Plan
     match to {
         Reach::To(a) => {
             if a.0 < r.sp - 1 {
-                return plans::stored(r, 1, a, top);
+                return plans::stored(r, 1, a);
             }
             BAD_ADDRESS
         }

@@ -64,8 +64,8 @@ pub(crate) fn cell_at(bits: &[u32], tags: &[u8], a: MemoryAddress) -> Cell
     }
 }
 
-// The address `popped` below SP.
-fn below_top(r: Registers, popped: usize) -> MemoryAddress
+// The address `popped` below SP; where there are fewer values, 0.
+pub(crate) fn below_top(r: Registers, popped: usize) -> MemoryAddress
     ensures { λ a. ⌜ a .0 ≡ r .sp - popped ⌝ }
 {
     if r.sp < popped {

@@ -1,15 +1,20 @@
-// Commit: what an accepted step writes to the history and to the cells, for an effect of any kind: it says which cells. A jump and one written
-// cell have a shorter way of their own (`carry`).
+// Commit: what an accepted step writes to the history and to the cells. One for all instructions: the effect says which cells.
+use crate::records;
 use rules::Effect;
+use rules::MachineRefusal;
 use rules::Registers;
+use rules::Step;
 ghost use mathlib.Core.Path.{_≡_};
 ghost use Prim.Native.Nat.{_+_, _≤_};
 ghost use lib.ListN.{length, replicate};
 ghost use Rattle.rules.specs.Lists.{splice};
 ghost use Rattle.rules.specs.Cells.{cells};
 ghost use Rattle.rules.specs.State.{memory};
-ghost use Rattle.rules.specs.Commit.{block, recordOf, keeps, historyAfter, registersWith, registersOf, memoryOf};
+ghost use Rattle.rules.specs.Commit.{block, recordOf, registersWith};
+ghost use Rattle.state.specs.Outcomes.{stepped};
+ghost use Rattle.machine.specs.Fields.{Fields};
 ghost use Rattle.machine.specs.Fits.{Fits};
+ghost use Rattle.machine.specs.Stages.{committed};
 
 // Sets `count` cells, from `from` on, to INT 0.
 fn zero_cells(bits: &mut [u32], tags: &mut [u8], from: usize, count: usize)
@@ -51,6 +56,7 @@ fn put(e: Effect, bits: &mut [u32], tags: &mut [u8])
 // Adds the step's record: the cell places of the cells that the effect overwrites, by rising address, then the step place.
 fn add_record(e: Effect, r: Registers, bits: &[u32], tags: &[u8], history: &mut [u64])
     requires { ⌜ (length (now tags) ≡ length (now bits)) × ((e .at + e .count ≤ length (now bits)) × (r .used + (e .count + 1) ≤ length (now history))) ⌝ }
+    requires { ⌜ Fields r (now tags) ⌝ }
     ensures { λ _. ⌜ now (history .exit) ≡ splice (now (history .entry)) (r .used) (recordOf r (cells (now (bits .entry)) (now (tags .entry))) e) ⌝ }
 {
     let at = e.at;
@@ -60,11 +66,11 @@ fn add_record(e: Effect, r: Registers, bits: &[u32], tags: &[u8], history: &mut 
     while i < count {
         let address = at + i;
         let place = used + i;
-        history[place] = places::cell_place(address, tags[address], bits[address]);
+        history[place] = records::cell_place(address, tags[address], bits[address]);
         i += 1;
     }
     let last = used + count;
-    history[last] = places::step_place(r.pc, r.sp, r.fbr, count);
+    history[last] = records::step_place(r.pc, r.sp, r.fbr, count);
 }
 
 // The registers after the effect, with these places used and so many steps kept.
@@ -83,33 +89,41 @@ fn registers_with(r: Registers, e: Effect, used: usize, kept: usize) -> Register
     }
 }
 
-// Keeps what the effect overwrites, where there is a history; answers the registers after it.
-fn keep(e: Effect, r: Registers, bits: &[u32], tags: &[u8], history: &mut [u64]) -> Registers
+// "8: H above 0 and fewer than (cells written + 1) places free", and then the record, where there is a history.
+fn keep(r: Registers, e: Effect, bits: &[u32], tags: &[u8], history: &mut [u64]) -> Step
     requires { ⌜ Fits r e (memory (now bits) (now tags) (now history)) ⌝ }
-    ensures { λ a. ⌜ a ≡ registersOf r e ⌝ }
-    ensures { λ _. ⌜ now (history .exit) ≡ historyAfter (keeps r) (now (history .entry)) (r .used) (recordOf r (cells (now (bits .entry)) (now (tags .entry))) e) ⌝ }
+    ensures { λ a. ⌜ a ≡ committed r (memory (now (bits .entry)) (now (tags .entry)) (now (history .entry))) e .answer ⌝ }
+    ensures { λ _. ⌜ now (history .exit) ≡ committed r (memory (now (bits .entry)) (now (tags .entry)) (now (history .entry))) e .memory .history ⌝ }
 {
     let used = r.used;
     if r.h == 0 {
-        return registers_with(r, e, used, r.kept);
+        return Step::Next(registers_with(r, e, used, r.kept));
+    }
+    let needed = e.count + 1;
+    if r.h - used < needed {
+        return Step::Refused(MachineRefusal::HistoryFull);
     }
     add_record(e, r, bits, tags, history);
-    registers_with(r, e, used + (e.count + 1), r.kept + 1)
+    Step::Next(registers_with(r, e, used + needed, r.kept + 1))
 }
 
-// Carries out an effect that fits: keeps what it overwrites, writes its cells, and answers the new registers.
+// Carries out an effect, where there is room for its record: keeps what it overwrites, then writes its cells.
 pub(crate) fn commit(
-    e: Effect,
     r: Registers,
+    e: Effect,
     bits: &mut [u32],
     tags: &mut [u8],
     history: &mut [u64],
-) -> Registers
+) -> Step
     requires { ⌜ Fits r e (memory (now bits) (now tags) (now history)) ⌝ }
-    ensures { λ a. ⌜ a ≡ registersOf r e ⌝ }
-    ensures { λ _. ⌜ memory (now (bits .exit)) (now (tags .exit)) (now (history .exit)) ≡ memoryOf r (memory (now (bits .entry)) (now (tags .entry)) (now (history .entry))) e ⌝ }
+    ensures { λ a. ⌜ stepped a (now (bits .exit)) (now (tags .exit)) (now (history .exit)) ≡ committed r (memory (now (bits .entry)) (now (tags .entry)) (now (history .entry))) e ⌝ }
 {
-    let left = keep(e, r, bits, tags, history);
-    put(e, bits, tags);
-    left
+    let next = keep(r, e, bits, tags, history);
+    match next {
+        Step::Refused(refusal) => Step::Refused(refusal),
+        Step::Next(registers) => {
+            put(e, bits, tags);
+            Step::Next(registers)
+        }
+    }
 }

@@ -1,70 +1,57 @@
-// The rarer effects of a plan, each as specs/Plan.antt has it. Nothing is written here.
+// The effect of a plan, by its shape, as specs/Plan.antt has it. Nothing is written here.
 ghost use mathlib.Core.Path.{_≡_};
 ghost use Prim.Native.Nat.{_-_, _<_};
-ghost use lib.ListN.{length};
-ghost use Rattle.rules.specs.Cells.{cells, cellAt};
-ghost use Rattle.machine.specs.declared.plans.Rare.the-variants.{Swap};
-ghost use Rattle.machine.specs.Plan.{swaps, fills, frames, links, halts, rarely};
+ghost use Rattle.rules.specs.Cells.{cells};
+ghost use Rattle.machine.specs.Small.{Small};
+ghost use Rattle.machine.specs.Live.{Live};
+ghost use Rattle.machine.specs.Plan.{jumps, moves, frames, halts, results, stores, calls, links, swaps, fills};
+use crate::cells;
 use crate::cells::INT_ZERO;
-use crate::cells::cell_at;
 use crate::plans::Plan;
-use crate::plans::Rare;
 use rules::Cell;
 use rules::Effect;
-use rules::MemoryAddress;
 use rules::Registers;
 
-// The planned cell, and above it the one that stands at the address.
-fn swaps(r: Registers, d: Plan, bits: &[u32], tags: &[u8]) -> Effect
-    requires { ⌜ (d .at < length (now bits)) × (length (now tags) ≡ length (now bits)) ⌝ }
-    ensures { λ e. ⌜ e ≡ swaps r (cellAt (cells (now (bits .entry)) (now (tags .entry))) (record { 0 = d .at })) d ⌝ }
+// PC is the planned address.
+pub(crate) fn jumps(r: Registers, d: Plan) -> Effect
+    ensures { λ e. ⌜ e ≡ jumps r d ⌝ }
 {
-    let there = cell_at(bits, tags, MemoryAddress(d.at));
     Effect {
-        pc: d.pc,
+        pc: d.bits as usize,
         sp: d.sp,
         fbr: r.fbr,
         halt: 0,
-        at: d.at,
-        count: 2,
-        first: Cell {
-            bits: d.bits,
-            tag: d.tag,
-        },
-        second: there,
+        at: 0,
+        count: 0,
+        first: INT_ZERO,
+        second: INT_ZERO,
     }
 }
 
-// How far `to` lies above `from`, if it does.
-fn above(to: usize, from: usize) -> usize
-    ensures { λ n. ⌜ n ≡ to - from ⌝ }
+// SP moves down.
+pub(crate) fn moves(r: Registers, d: Plan) -> Effect
+    requires { ⌜ Small r ⌝ }
+    ensures { λ e. ⌜ e ≡ moves r d ⌝ }
 {
-    if to < from { 0 } else { to - from }
-}
-
-// INT 0 from the address up to the new SP, where that is above.
-fn fills(r: Registers, d: Plan) -> Effect
-    ensures { λ e. ⌜ e ≡ fills r d ⌝ }
-{
-    let count = above(d.sp, d.at);
     Effect {
-        pc: d.pc,
+        pc: r.pc + 1,
         sp: d.sp,
         fbr: r.fbr,
         halt: 0,
         at: d.at,
-        count,
+        count: 0,
         first: INT_ZERO,
         second: INT_ZERO,
     }
 }
 
 // FBR is the address.
-fn frames(d: Plan) -> Effect
-    ensures { λ e. ⌜ e ≡ frames d ⌝ }
+pub(crate) fn frames(r: Registers, d: Plan) -> Effect
+    requires { ⌜ Small r ⌝ }
+    ensures { λ e. ⌜ e ≡ frames r d ⌝ }
 {
     Effect {
-        pc: d.pc,
+        pc: r.pc + 1,
         sp: d.sp,
         fbr: d.at,
         halt: 0,
@@ -75,14 +62,31 @@ fn frames(d: Plan) -> Effect
     }
 }
 
-// The planned cell, and FBR is the old SP.
-fn links(r: Registers, d: Plan) -> Effect
-    ensures { λ e. ⌜ e ≡ links r d ⌝ }
+// HALT is set.
+pub(crate) fn halts(r: Registers) -> Effect
+    ensures { λ e. ⌜ e ≡ halts r ⌝ }
 {
     Effect {
-        pc: d.pc,
-        sp: d.sp,
-        fbr: r.sp,
+        pc: r.pc,
+        sp: r.sp,
+        fbr: r.fbr,
+        halt: 1,
+        at: 0,
+        count: 0,
+        first: INT_ZERO,
+        second: INT_ZERO,
+    }
+}
+
+// The planned cell is the top, at the address.
+pub(crate) fn results(r: Registers, d: Plan) -> Effect
+    requires { ⌜ Small r × (d .at < 1024) ⌝ }
+    ensures { λ e. ⌜ e ≡ results r d ⌝ }
+{
+    Effect {
+        pc: r.pc + 1,
+        sp: d.at + 1,
+        fbr: r.fbr,
         halt: 0,
         at: d.at,
         count: 1,
@@ -94,33 +98,98 @@ fn links(r: Registers, d: Plan) -> Effect
     }
 }
 
-// HALT is set.
-fn halts(r: Registers, d: Plan) -> Effect
-    ensures { λ e. ⌜ e ≡ halts r d ⌝ }
+// The top is stored at the address.
+pub(crate) fn stores(r: Registers, d: Plan, bits: &[u32], tags: &[u8]) -> Effect
+    requires { ⌜ Small r × Live r (now bits) (now tags) ⌝ }
+    ensures { λ e. ⌜ e ≡ stores r (cells (now (bits .entry)) (now (tags .entry))) d ⌝ }
 {
     Effect {
-        pc: d.pc,
+        pc: r.pc + 1,
         sp: d.sp,
         fbr: r.fbr,
-        halt: 1,
-        at: 0,
-        count: 0,
-        first: INT_ZERO,
+        halt: 0,
+        at: d.at,
+        count: 1,
+        first: cells::top(r, bits, tags),
         second: INT_ZERO,
     }
 }
 
-// The effect of a rarer plan.
-pub(crate) fn rare_effect(r: Registers, d: Plan, bits: &[u32], tags: &[u8]) -> Effect
-    requires { ⌜ (d .rare ≡ Swap → d .at < length (now bits)) × (length (now tags) ≡ length (now bits)) ⌝ }
-    ensures { λ e. ⌜ e ≡ rarely (d .rare) r (cellAt (cells (now (bits .entry)) (now (tags .entry))) (record { 0 = d .at })) d ⌝ }
+// PC is the planned address, and the address after the call is pushed.
+pub(crate) fn calls(r: Registers, d: Plan) -> Effect
+    requires { ⌜ Small r × (d .at < 1024) ⌝ }
+    ensures { λ e. ⌜ e ≡ calls r d ⌝ }
 {
-    let rare = d.rare;
-    match rare {
-        Rare::Swap => swaps(r, d, bits, tags),
-        Rare::Fill => fills(r, d),
-        Rare::Frame => frames(d),
-        Rare::Link => links(r, d),
-        Rare::Halt => halts(r, d),
+    let next = r.pc + 1;
+    Effect {
+        pc: d.bits as usize,
+        sp: d.at + 1,
+        fbr: r.fbr,
+        halt: 0,
+        at: d.at,
+        count: 1,
+        first: cells::program_cell(next as u32),
+        second: INT_ZERO,
+    }
+}
+
+// The old FBR is pushed, and FBR is the old SP.
+pub(crate) fn links(r: Registers) -> Effect
+    requires { ⌜ Small r ⌝ }
+    ensures { λ e. ⌜ e ≡ links r ⌝ }
+{
+    Effect {
+        pc: r.pc + 1,
+        sp: r.sp + 1,
+        fbr: r.sp,
+        halt: 0,
+        at: r.sp,
+        count: 1,
+        first: cells::memory_cell(r.fbr as u32),
+        second: INT_ZERO,
+    }
+}
+
+// The two top values change places.
+pub(crate) fn swaps(r: Registers, bits: &[u32], tags: &[u8]) -> Effect
+    requires { ⌜ Small r × Live r (now bits) (now tags) ⌝ }
+    ensures { λ e. ⌜ e ≡ swaps r (cells (now (bits .entry)) (now (tags .entry))) ⌝ }
+{
+    Effect {
+        pc: r.pc + 1,
+        sp: r.sp,
+        fbr: r.fbr,
+        halt: 0,
+        at: cells::below_top(r, 2).0,
+        count: 2,
+        first: cells::top(r, bits, tags),
+        second: cells::second(r, bits, tags),
+    }
+}
+
+// How far `to` lies above `from`, if it does.
+fn above(to: usize, from: usize) -> usize
+    ensures { λ n. ⌜ n ≡ to - from ⌝ }
+{
+    if to < from {
+        return 0;
+    }
+    to - from
+}
+
+// INT 0 from the address up to the new SP.
+pub(crate) fn fills(r: Registers, d: Plan) -> Effect
+    requires { ⌜ Small r ⌝ }
+    ensures { λ e. ⌜ e ≡ fills r d ⌝ }
+{
+    Effect {
+        pc: r.pc + 1,
+        sp: d.sp,
+        fbr: r.fbr,
+        halt: 0,
+        at: d.at,
+        count: above(d.sp, d.at),
+        first: INT_ZERO,
+        second: INT_ZERO,
     }
 }

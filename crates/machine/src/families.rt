@@ -1,5 +1,5 @@
-// The instructions by families: those of one family take the same values and refuse the same. Each asks in the order of the numbers 3 to 6; a
-// family of two values below is asked once it is known that there are two.
+// The instructions by families: those of one family take the same values and refuse the same. Each asks in the order of the numbers 4 to 7, once it is
+// known that its values are there; SWAP, which looks at none, asks 3 for itself.
 ghost use mathlib.Core.Path.{_≡_};
 ghost use Prim.Native.Nat.{_-_, _≤_};
 ghost use Rattle.rules.specs.declared.Decision.the-variants.{Does};
@@ -11,6 +11,7 @@ ghost use Rattle.rules.specs.Effects.{result, jumped, called, programAddress};
 ghost use Rattle.rules.specs.Actions.{dup, swap, sums, ints, divides, floats, compareFloats, one, toFloat, toInt, sameValue, agree, equal, isNil, popSp, popFbr, jumpC, jumpInd, jsrInd};
 ghost use Rattle.machine.specs.Families.{onPair, onTop, onOperand};
 ghost use Rattle.machine.specs.Small.{Small};
+ghost use Rattle.machine.specs.Stages.{stacked};
 ghost use Rattle.machine.specs.Plan.{planned, Means};
 use crate::addresses;
 use crate::cells::float_cell;
@@ -23,28 +24,24 @@ use crate::plans::Plan;
 use crate::plans::TOO_FEW_VALUES;
 use crate::plans::WRONG_TAG;
 use rules::Cell;
-use rules::ProgramAddress;
 use rules::Registers;
 use rules::tags;
 
 pub(crate) fn on_dup(r: Registers, top: Cell) -> Plan
-    requires { ⌜ Small r ⌝ }
+    requires { ⌜ Small r × (1 ≤ r .sp) ⌝ }
     ensures { λ d. ⌜ Means r d (onTop dup r top) ⌝ }
 {
-    if r.sp < 1 {
-        return TOO_FEW_VALUES;
-    }
-    plans::result(r, 0, top)
+    plans::pushed(r, top)
 }
 
-pub(crate) fn on_swap(r: Registers, top: Cell) -> Plan
+pub(crate) fn on_swap(r: Registers) -> Plan
     requires { ⌜ Small r ⌝ }
-    ensures { λ d. ⌜ ((c : Cells) → planned r c d ≡ onPair swap r (cellAt c (record { 0 = r .sp - 2 })) top) ⌝ }
+    ensures { λ d. ⌜ ((c : Cells) → planned r c d ≡ stacked r (onPair swap r (cellAt c (record { 0 = r .sp - 2 })) (cellAt c (record { 0 = r .sp - 1 })))) ⌝ }
 {
     if r.sp < 2 {
         return TOO_FEW_VALUES;
     }
-    plans::swapped(r, top)
+    plans::swapped(r)
 }
 
 // Two INTs, and an INT as the result.
@@ -132,13 +129,10 @@ pub(crate) fn on_compare_floats(r: Registers, below: Cell, top: Cell) -> Plan
 }
 
 // One INT, and an INT as the result.
-fn on_one(v: u32, r: Registers, top: Cell) -> Plan
-    requires { ⌜ Small r ⌝ }
+fn on_int(v: u32, r: Registers, top: Cell) -> Plan
+    requires { ⌜ Small r × (1 ≤ r .sp) ⌝ }
     ensures { λ d. ⌜ Means r d (onTop (one (λ t. v)) r top) ⌝ }
 {
-    if r.sp < 1 {
-        return TOO_FEW_VALUES;
-    }
     if top.tag != tags::INT {
         return WRONG_TAG;
     }
@@ -146,41 +140,38 @@ fn on_one(v: u32, r: Registers, top: Cell) -> Plan
 }
 
 pub(crate) fn on_not(r: Registers, top: Cell) -> Plan
-    requires { ⌜ Small r ⌝ }
+    requires { ⌜ Small r × (1 ≤ r .sp) ⌝ }
     ensures { λ d. ⌜ Means r d (onTop (one (λ t. bit (not (holds t)))) r top) ⌝ }
 {
-    on_one(word::logic::not(top.bits), r, top)
+    on_int(word::logic::not(top.bits), r, top)
 }
 
 pub(crate) fn on_bit_not(r: Registers, top: Cell) -> Plan
-    requires { ⌜ Small r ⌝ }
+    requires { ⌜ Small r × (1 ≤ r .sp) ⌝ }
     ensures { λ d. ⌜ Means r d (onTop (one bitNot) r top) ⌝ }
 {
-    on_one(word::bits::bit_not(top.bits), r, top)
+    on_int(word::bits::bit_not(top.bits), r, top)
 }
 
 pub(crate) fn on_is_pos(r: Registers, top: Cell) -> Plan
-    requires { ⌜ Small r ⌝ }
+    requires { ⌜ Small r × (1 ≤ r .sp) ⌝ }
     ensures { λ d. ⌜ Means r d (onTop (one (λ t. bit (less 0 t))) r top) ⌝ }
 {
-    on_one(word::tests::is_pos(top.bits), r, top)
+    on_int(word::tests::is_pos(top.bits), r, top)
 }
 
 pub(crate) fn on_is_neg(r: Registers, top: Cell) -> Plan
-    requires { ⌜ Small r ⌝ }
+    requires { ⌜ Small r × (1 ≤ r .sp) ⌝ }
     ensures { λ d. ⌜ Means r d (onTop (one (λ t. bit (less t 0))) r top) ⌝ }
 {
-    on_one(word::tests::is_neg(top.bits), r, top)
+    on_int(word::tests::is_neg(top.bits), r, top)
 }
 
 // An INT, and the nearest FLOAT as the result.
 pub(crate) fn on_to_float(r: Registers, top: Cell) -> Plan
-    requires { ⌜ Small r ⌝ }
+    requires { ⌜ Small r × (1 ≤ r .sp) ⌝ }
     ensures { λ d. ⌜ Means r d (onTop toFloat r top) ⌝ }
 {
-    if r.sp < 1 {
-        return TOO_FEW_VALUES;
-    }
     if top.tag != tags::INT {
         return WRONG_TAG;
     }
@@ -190,12 +181,9 @@ pub(crate) fn on_to_float(r: Registers, top: Cell) -> Plan
 
 // A FLOAT that is cut to an INT, and that INT as the result.
 pub(crate) fn on_to_int(r: Registers, top: Cell) -> Plan
-    requires { ⌜ Small r ⌝ }
+    requires { ⌜ Small r × (1 ≤ r .sp) ⌝ }
     ensures { λ d. ⌜ Means r d (onTop toInt r top) ⌝ }
 {
-    if r.sp < 1 {
-        return TOO_FEW_VALUES;
-    }
     if top.tag != tags::FLOAT {
         return WRONG_TAG;
     }
@@ -235,24 +223,18 @@ pub(crate) fn on_equal(r: Registers, below: Cell, top: Cell) -> Plan
 }
 
 pub(crate) fn on_is_nil(r: Registers, top: Cell) -> Plan
-    requires { ⌜ Small r ⌝ }
+    requires { ⌜ Small r × (1 ≤ r .sp) ⌝ }
     ensures { λ d. ⌜ Means r d (onTop isNil r top) ⌝ }
 {
-    if r.sp < 1 {
-        return TOO_FEW_VALUES;
-    }
     let v = word::tests::bit(same_value(top.tag, top.bits, 0));
     plans::result(r, 1, int_cell(v))
 }
 
 // An MA in 0..N-1 becomes SP.
 pub(crate) fn on_pop_sp(r: Registers, top: Cell) -> Plan
-    requires { ⌜ Small r ⌝ }
+    requires { ⌜ Small r × (1 ≤ r .sp) ⌝ }
     ensures { λ d. ⌜ Means r d (onTop popSp r top) ⌝ }
 {
-    if r.sp < 1 {
-        return TOO_FEW_VALUES;
-    }
     if top.tag != tags::MA {
         return WRONG_TAG;
     }
@@ -264,12 +246,9 @@ pub(crate) fn on_pop_sp(r: Registers, top: Cell) -> Plan
 
 // An MA in 0..N-1 becomes FBR.
 pub(crate) fn on_pop_fbr(r: Registers, top: Cell) -> Plan
-    requires { ⌜ Small r ⌝ }
+    requires { ⌜ Small r × (1 ≤ r .sp) ⌝ }
     ensures { λ d. ⌜ Means r d (onTop popFbr r top) ⌝ }
 {
-    if r.sp < 1 {
-        return TOO_FEW_VALUES;
-    }
     if top.tag != tags::MA {
         return WRONG_TAG;
     }
@@ -281,45 +260,36 @@ pub(crate) fn on_pop_fbr(r: Registers, top: Cell) -> Plan
 
 // An INT, by which the jump is made or not.
 pub(crate) fn on_jump_c(r: Registers, target: u32, top: Cell) -> Plan
-    requires { ⌜ Small r ⌝ }
+    requires { ⌜ Small r × (1 ≤ r .sp) ⌝ }
     ensures { λ d. ⌜ Means r d (onOperand jumpC r target top) ⌝ }
 {
-    if r.sp < 1 {
-        return TOO_FEW_VALUES;
-    }
     if top.tag != tags::INT {
         return WRONG_TAG;
     }
     if top.bits == 0 {
-        return plans::jumped(r, 1, ProgramAddress(r.pc + 1));
+        return plans::jumped(r, 1, (r.pc + 1) as u32);
     }
-    plans::jumped(r, 1, ProgramAddress(target as usize))
+    plans::jumped(r, 1, target)
 }
 
 pub(crate) fn on_jump_ind(r: Registers, top: Cell) -> Plan
-    requires { ⌜ Small r ⌝ }
+    requires { ⌜ Small r × (1 ≤ r .sp) ⌝ }
     ensures { λ d. ⌜ Means r d (onTop jumpInd r top) ⌝ }
 {
-    if r.sp < 1 {
-        return TOO_FEW_VALUES;
-    }
     if top.tag != tags::PA {
         return WRONG_TAG;
     }
-    plans::jumped(r, 1, ProgramAddress(top.bits as usize))
+    plans::jumped(r, 1, top.bits)
 }
 
 pub(crate) fn on_jsr_ind(r: Registers, top: Cell) -> Plan
-    requires { ⌜ Small r ⌝ }
+    requires { ⌜ Small r × (1 ≤ r .sp) ⌝ }
     ensures { λ d. ⌜ Means r d (onTop jsrInd r top) ⌝ }
 {
-    if r.sp < 1 {
-        return TOO_FEW_VALUES;
-    }
     if top.tag != tags::PA {
         return WRONG_TAG;
     }
-    plans::called(r, 1, ProgramAddress(top.bits as usize))
+    plans::called(r, 1, top.bits)
 }
 
 // A cell is pushed.
@@ -327,7 +297,7 @@ pub(crate) fn on_push(r: Registers, c: Cell) -> Plan
     requires { ⌜ Small r ⌝ }
     ensures { λ d. ⌜ Means r d (Does (result r 0 c)) ⌝ }
 {
-    plans::result(r, 0, c)
+    plans::pushed(r, c)
 }
 
 // PC is set to the target.
@@ -335,7 +305,7 @@ pub(crate) fn on_jump(r: Registers, target: u32) -> Plan
     requires { ⌜ Small r ⌝ }
     ensures { λ d. ⌜ Means r d (Does (jumped r 0 (programAddress target))) ⌝ }
 {
-    plans::jumped(r, 0, ProgramAddress(target as usize))
+    plans::jumped(r, 0, target)
 }
 
 // PC is set to the target, and the address after the call is pushed.
@@ -343,5 +313,5 @@ pub(crate) fn on_jsr(r: Registers, target: u32) -> Plan
     requires { ⌜ Small r ⌝ }
     ensures { λ d. ⌜ Means r d (Does (called r 0 (programAddress target))) ⌝ }
 {
-    plans::called(r, 0, ProgramAddress(target as usize))
+    plans::called(r, 0, target)
 }

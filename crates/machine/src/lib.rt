@@ -7,6 +7,6 @@ mod decide;
 mod effects;
 mod families;
 mod plans;
+mod records;
 pub mod run;
 pub mod step;
-mod turn;

@@ -1,55 +1,49 @@
-// Plans: what an instruction decides, as a few numbers that stay in the processor's registers until they are carried out. What a plan means as
-// a decision of the rules says specs/Plan.antt. Each maker below makes the plan of the effect that has its name in the rules.
+// Plans: what an instruction decides, 3 to 7 in order, as a few numbers that stay in the processor's registers until they are carried out. What a
+// plan means as a decision of the rules says specs/Plan.antt. Each maker below makes the plan of the effect that has its name in the rules.
 ghost use mathlib.Core.Path.{_≡_};
-ghost use Prim.Native.Nat.{_-_, _≤_};
+ghost use Prim.Native.Nat.{_-_, _≤_, _<_};
 ghost use Rattle.rules.specs.Cells.{Cells, cellAt};
-ghost use Rattle.rules.specs.Effects.{result, swapped, stored, moved, framed, linked, jumped, called, halted};
+ghost use Rattle.rules.specs.Effects.{result, swapped, stored, moved, framed, linked, jumped, called, halted, programAddress};
 ghost use Rattle.rules.specs.declared.Decision.the-variants.{Does};
 ghost use Rattle.machine.specs.Small.{Small};
+ghost use Rattle.machine.specs.Stages.{stacked};
 ghost use Rattle.machine.specs.Plan.{planned, Means};
 use rules::Cell;
 use rules::MemoryAddress;
-use rules::ProgramAddress;
 use rules::Registers;
 use rules::tags;
 
-// Accepted, with PC and SP as planned: and nothing more; and one cell is written; or one of the rarer effects. Then the refusals 3 to 6.
+// Accepted: what is done says the shape's clause in specs/Plan.antt. Then the refusals 3 to 7.
 pub enum Shape {
     Jump,
-    Write,
-    Rare,
+    Move,
+    Frame,
+    Halt,
+    Result,
+    Store,
+    Call,
+    Link,
+    Swap,
+    Fill,
     TooFewValues,
     WrongTag,
     NoResult,
     BadAddress,
+    StackFull,
 }
 
-// The rarer effects: the planned cell is written and what stood in its place goes above it; cells up to SP become INT 0; FBR is the address; a
-// cell is written and FBR is the old SP; HALT is set.
-pub enum Rare {
-    Swap,
-    Fill,
-    Frame,
-    Link,
-    Halt,
-}
-
-// A shape with the new PC and SP, an address of cells, and a cell to write. What a shape does not need is never read.
+// A shape with the new SP, an address of cells, and a cell to write, or a program address as the bits. What a shape does not need is never read.
 pub struct Plan {
     pub shape: Shape,
-    pub rare: Rare,
-    pub pc: usize,
     pub sp: usize,
     pub at: usize,
     pub bits: u32,
     pub tag: u8,
 }
 
-// The refusals 3 to 6.
+// The refusals 3 to 7.
 pub(crate) const TOO_FEW_VALUES: Plan = Plan {
     shape: Shape::TooFewValues,
-    rare: Rare::Halt,
-    pc: 0,
     sp: 0,
     at: 0,
     bits: 0,
@@ -58,8 +52,6 @@ pub(crate) const TOO_FEW_VALUES: Plan = Plan {
 
 pub(crate) const WRONG_TAG: Plan = Plan {
     shape: Shape::WrongTag,
-    rare: Rare::Halt,
-    pc: 0,
     sp: 0,
     at: 0,
     bits: 0,
@@ -68,8 +60,6 @@ pub(crate) const WRONG_TAG: Plan = Plan {
 
 pub(crate) const NO_RESULT: Plan = Plan {
     shape: Shape::NoResult,
-    rare: Rare::Halt,
-    pc: 0,
     sp: 0,
     at: 0,
     bits: 0,
@@ -78,72 +68,98 @@ pub(crate) const NO_RESULT: Plan = Plan {
 
 pub(crate) const BAD_ADDRESS: Plan = Plan {
     shape: Shape::BadAddress,
-    rare: Rare::Halt,
-    pc: 0,
     sp: 0,
     at: 0,
     bits: 0,
     tag: tags::INT,
 };
 
-// `popped` values are popped and a cell is pushed.
+pub(crate) const STACK_FULL: Plan = Plan {
+    shape: Shape::StackFull,
+    sp: 0,
+    at: 0,
+    bits: 0,
+    tag: tags::INT,
+};
+
+// A cell is pushed.
+pub(crate) fn pushed(r: Registers, c: Cell) -> Plan
+    requires { ⌜ Small r ⌝ }
+    ensures { λ d. ⌜ Means r d (Does (result r 0 c)) ⌝ }
+{
+    if r.n <= r.sp + 1 {
+        return STACK_FULL;
+    }
+    Plan {
+        shape: Shape::Result,
+        sp: 0,
+        at: r.sp,
+        bits: c.bits,
+        tag: c.tag,
+    }
+}
+
+// `popped` values are popped and a cell is pushed: SP does not rise.
 pub(crate) fn result(r: Registers, popped: usize, c: Cell) -> Plan
-    requires { ⌜ Small r × (popped ≤ r .sp) ⌝ }
+    requires { ⌜ Small r × (1 ≤ popped) × (popped ≤ r .sp) ⌝ }
     ensures { λ d. ⌜ Means r d (Does (result r popped c)) ⌝ }
 {
-    let at = r.sp - popped;
     Plan {
-        shape: Shape::Write,
-        rare: Rare::Halt,
-        pc: r.pc + 1,
-        sp: at + 1,
-        at,
+        shape: Shape::Result,
+        sp: 0,
+        at: r.sp - popped,
         bits: c.bits,
         tag: c.tag,
     }
 }
 
 // The two top values change places.
-pub(crate) fn swapped(r: Registers, top: Cell) -> Plan
-    requires { ⌜ Small r × (2 ≤ r .sp) ⌝ }
-    ensures { λ d. ⌜ ((c : Cells) → planned r c d ≡ Does (swapped r (cellAt c (record { 0 = r .sp - 2 })) top)) ⌝ }
+pub(crate) fn swapped(r: Registers) -> Plan
+    requires { ⌜ Small r ⌝ }
+    ensures { λ d. ⌜ ((c : Cells) → planned r c d ≡ stacked r (Does (swapped r (cellAt c (record { 0 = r .sp - 2 })) (cellAt c (record { 0 = r .sp - 1 }))))) ⌝ }
 {
     Plan {
-        shape: Shape::Rare,
-        rare: Rare::Swap,
-        pc: r.pc + 1,
-        sp: r.sp,
-        at: r.sp - 2,
-        bits: top.bits,
-        tag: top.tag,
+        shape: Shape::Swap,
+        sp: 0,
+        at: 0,
+        bits: 0,
+        tag: tags::INT,
     }
 }
 
-// `popped` values are popped and a cell is stored.
-pub(crate) fn stored(r: Registers, popped: usize, a: MemoryAddress, c: Cell) -> Plan
+// `popped` values are popped and the top is stored.
+pub(crate) fn stored(r: Registers, popped: usize, a: MemoryAddress) -> Plan
     requires { ⌜ Small r × (popped ≤ r .sp) ⌝ }
-    ensures { λ d. ⌜ Means r d (Does (stored r popped a c)) ⌝ }
+    ensures { λ d. ⌜ ((c : Cells) → planned r c d ≡ stacked r (Does (stored r popped a (cellAt c (record { 0 = r .sp - 1 }))))) ⌝ }
 {
     Plan {
-        shape: Shape::Write,
-        rare: Rare::Halt,
-        pc: r.pc + 1,
+        shape: Shape::Store,
         sp: r.sp - popped,
         at: a.0,
-        bits: c.bits,
-        tag: c.tag,
+        bits: 0,
+        tag: tags::INT,
     }
 }
 
 // SP moves from `popped` to an address; the cells between are zeroed where it moves up.
 pub(crate) fn moved(r: Registers, popped: usize, a: MemoryAddress) -> Plan
-    requires { ⌜ Small r ⌝ }
+    requires { ⌜ Small r × (popped ≤ r .sp) ⌝ }
     ensures { λ d. ⌜ Means r d (Does (moved r popped a)) ⌝ }
 {
+    if a.0 <= popped {
+        return Plan {
+            shape: Shape::Move,
+            sp: a.0,
+            at: popped,
+            bits: 0,
+            tag: tags::INT,
+        };
+    }
+    if r.n <= a.0 {
+        return STACK_FULL;
+    }
     Plan {
-        shape: Shape::Rare,
-        rare: Rare::Fill,
-        pc: r.pc + 1,
+        shape: Shape::Fill,
         sp: a.0,
         at: popped,
         bits: 0,
@@ -157,9 +173,7 @@ pub(crate) fn framed(r: Registers, a: MemoryAddress) -> Plan
     ensures { λ d. ⌜ Means r d (Does (framed r a)) ⌝ }
 {
     Plan {
-        shape: Shape::Rare,
-        rare: Rare::Frame,
-        pc: r.pc + 1,
+        shape: Shape::Frame,
         sp: r.sp - 1,
         at: a.0,
         bits: 0,
@@ -172,60 +186,58 @@ pub(crate) fn linked(r: Registers) -> Plan
     requires { ⌜ Small r ⌝ }
     ensures { λ d. ⌜ Means r d (Does (linked r)) ⌝ }
 {
-    Plan {
-        shape: Shape::Rare,
-        rare: Rare::Link,
-        pc: r.pc + 1,
-        sp: r.sp + 1,
-        at: r.sp,
-        bits: r.fbr as u32,
-        tag: tags::MA,
+    if r.n <= r.sp + 1 {
+        return STACK_FULL;
     }
-}
-
-// `popped` values are popped, and PC is set.
-pub(crate) fn jumped(r: Registers, popped: usize, a: ProgramAddress) -> Plan
-    requires { ⌜ Small r × (popped ≤ r .sp) ⌝ }
-    ensures { λ d. ⌜ Means r d (Does (jumped r popped a)) ⌝ }
-{
     Plan {
-        shape: Shape::Jump,
-        rare: Rare::Halt,
-        pc: a.0,
-        sp: r.sp - popped,
+        shape: Shape::Link,
+        sp: 0,
         at: 0,
         bits: 0,
         tag: tags::INT,
     }
 }
 
-// `popped` values are popped, PC is set, and the address after the call is pushed.
-pub(crate) fn called(r: Registers, popped: usize, a: ProgramAddress) -> Plan
+// `popped` values are popped, and PC is set.
+pub(crate) fn jumped(r: Registers, popped: usize, target: u32) -> Plan
     requires { ⌜ Small r × (popped ≤ r .sp) ⌝ }
-    ensures { λ d. ⌜ Means r d (Does (called r popped a)) ⌝ }
+    ensures { λ d. ⌜ Means r d (Does (jumped r popped (programAddress target))) ⌝ }
+{
+    Plan {
+        shape: Shape::Jump,
+        sp: r.sp - popped,
+        at: 0,
+        bits: target,
+        tag: tags::INT,
+    }
+}
+
+// `popped` values are popped, PC is set, and the address after the call is pushed.
+pub(crate) fn called(r: Registers, popped: usize, target: u32) -> Plan
+    requires { ⌜ Small r × (popped ≤ r .sp) ⌝ }
+    ensures { λ d. ⌜ Means r d (Does (called r popped (programAddress target))) ⌝ }
 {
     let at = r.sp - popped;
-    let next = r.pc + 1;
+    if r.n <= at + 1 {
+        return STACK_FULL;
+    }
     Plan {
-        shape: Shape::Write,
-        rare: Rare::Halt,
-        pc: a.0,
-        sp: at + 1,
+        shape: Shape::Call,
+        sp: 0,
         at,
-        bits: next as u32,
-        tag: tags::PA,
+        bits: target,
+        tag: tags::INT,
     }
 }
 
 // HALT is set, and PC stays.
 pub(crate) fn halted(r: Registers) -> Plan
+    requires { ⌜ Small r ⌝ }
     ensures { λ d. ⌜ Means r d (Does (halted r)) ⌝ }
 {
     Plan {
-        shape: Shape::Rare,
-        rare: Rare::Halt,
-        pc: r.pc,
-        sp: r.sp,
+        shape: Shape::Halt,
+        sp: 0,
         at: 0,
         bits: 0,
         tag: tags::INT,

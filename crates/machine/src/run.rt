@@ -1,12 +1,11 @@
 // A run: step after step, until HALT is 1, the limit is made, or a step is refused.
 use crate::carry;
 use crate::decide;
-use crate::turn;
-use crate::turn::Turn;
 use rules::Ending;
 use rules::MachineRefusal;
 use rules::Registers;
 use rules::Run;
+use rules::Step;
 use rules::sizes;
 ghost use mathlib.Core.Path.{_≡_};
 ghost use mathlib.Core.Bool.{true};
@@ -17,10 +16,9 @@ ghost use Rattle.rules.specs.State.{memory, sound};
 ghost use Rattle.rules.specs.Step.{step};
 ghost use Rattle.rules.specs.Run.{runFrom, run};
 ghost use Rattle.state.specs.Outcomes.{stepped};
-ghost use Rattle.machine.specs.Turn.{answerOf};
 ghost use Rattle.machine.specs.Outcomes.{ran};
 
-// One step of a sound state, whose soundness is not judged again: 1 to 8 in order, or what the instruction does.
+// One step of a sound state with HALT 0, neither of which is asked again: 2 to 8 in order, or what the instruction does.
 fn take_turn(
     table: &[u64],
     count: usize,
@@ -28,19 +26,34 @@ fn take_turn(
     bits: &mut [u32],
     tags: &mut [u8],
     history: &mut [u64],
-) -> Turn
+) -> Step
     requires { ⌜ sound (program (now table) count) r (memory (now bits) (now tags) (now history)) ≡ true ⌝ }
-    ensures { λ a. ⌜ stepped (answerOf a) (now (bits .exit)) (now (tags .exit)) (now (history .exit)) ≡ step (program (now (table .entry)) count) r (memory (now (bits .entry)) (now (tags .entry)) (now (history .entry))) ⌝ }
+    requires { ⌜ r .halt ≡ 0 ⌝ }
+    ensures { λ a. ⌜ stepped a (now (bits .exit)) (now (tags .exit)) (now (history .exit)) ≡ step (program (now (table .entry)) count) r (memory (now (bits .entry)) (now (tags .entry)) (now (history .entry))) ⌝ }
 {
     let pc = r.pc;
-    if r.halt != 0 {
-        return turn::refused(MachineRefusal::AlreadyHalted, r);
-    }
     if pc == count {
-        return turn::refused(MachineRefusal::AtEnd, r);
+        return Step::Refused(MachineRefusal::AtEnd);
     }
     let d = decide::decide_at(table[pc], r, bits, tags);
     carry::carry(r, d, bits, tags, history)
+}
+
+// The same registers, whose N and H are these: a run's sizes stay what they are at its start, where they need not be kept anew with each step.
+fn of_sizes(n: usize, h: usize, r: Registers) -> Registers
+    requires { ⌜ (r .n ≡ n) × (r .h ≡ h) ⌝ }
+    ensures { λ a. ⌜ a ≡ r ⌝ }
+{
+    Registers {
+        n,
+        h,
+        pc: r.pc,
+        sp: r.sp,
+        fbr: r.fbr,
+        halt: r.halt,
+        used: r.used,
+        kept: r.kept,
+    }
 }
 
 // A run's answer.
@@ -69,25 +82,25 @@ pub(crate) fn run_from(
     ensures { λ a. ⌜ ran a (now (bits .exit)) (now (tags .exit)) (now (history .exit)) ≡ runFrom (program (now (table .entry)) count) limit 0 r (memory (now (bits .entry)) (now (tags .entry)) (now (history .entry))) ⌝ }
     ensures { λ a. ⌜ a .steps ≤ limit ⌝ }
 {
-    let mut made = 0;
+    if r.halt != 0 {
+        return ended(0, Ending::Halted, r);
+    }
+    let mut left = limit;
     let mut at = r;
-    while made < limit {
-        if at.halt == 1 {
-            return ended(made, Ending::Halted, at);
-        }
+    while 0 < left {
         let next = take_turn(table, count, at, bits, tags, history);
-        if !next.made {
-            let refusal = next.refusal;
-            return ended(made, Ending::Stopped(refusal), at);
+        match next {
+            Step::Refused(refusal) => return ended(limit - left, Ending::Stopped(refusal), at),
+            Step::Next(registers) => {
+                left -= 1;
+                if registers.halt != 0 {
+                    return ended(limit - left, Ending::Halted, registers);
+                }
+                at = of_sizes(r.n, r.h, registers);
+            }
         }
-        let registers = next.registers;
-        at = registers;
-        made += 1;
     }
-    if at.halt == 1 {
-        return ended(made, Ending::Halted, at);
-    }
-    ended(made, Ending::LimitReached, at)
+    ended(limit, Ending::LimitReached, at)
 }
 
 // A run of at most `limit` steps. It tells the steps it made, how it ended, and the registers it left.

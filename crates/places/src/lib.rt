@@ -1,7 +1,6 @@
-// History places: the two kinds of place made of their fields, and each field read back. Every width is that of document 01, "History places".
-// A number that does not fit its field gives the field its low bits, as the definition has it.
+// History places: each field of the two kinds of place, read. Every width is that of document 01, "History places". The machine makes the places.
 ghost use mathlib.Core.Path.{_≡_};
-ghost use Rattle.rules.specs.Places.{cellPlace, stepPlace, mark, cellAddress, cellTag, cellBits, cellZeros, stepPc, stepSp, stepFbr, stepCount, stepZeros};
+ghost use Rattle.rules.specs.Places.{mark, cellAddress, cellTag, cellBits, cellZeros, stepPc, stepSp, stepFbr, stepCount, stepZeros};
 
 // The mark of a cell place, and that of a step place.
 pub const CELL_MARK: u64 = 0;
@@ -10,23 +9,23 @@ pub const STEP_MARK: u64 = 1;
 
 // The weight of a field is what 1 counts for in it, and its span is how many numbers it has room for.
 // The mark stands first in both kinds of place.
-const MARK_WEIGHT: u64 = 0x8000_0000_0000_0000;
+pub const MARK_WEIGHT: u64 = 0x8000_0000_0000_0000;
 
 // "address 10, old tag 2, old bits 32, 19 zeros"
-const ADDRESS_WEIGHT: u64 = 0x0020_0000_0000_0000;
+pub const ADDRESS_WEIGHT: u64 = 0x0020_0000_0000_0000;
 
-const TAG_WEIGHT: u64 = 0x0008_0000_0000_0000;
+pub const TAG_WEIGHT: u64 = 0x0008_0000_0000_0000;
 
-const BITS_WEIGHT: u64 = 0x0000_0000_0008_0000;
+pub const BITS_WEIGHT: u64 = 0x0000_0000_0008_0000;
 
 // "old PC 11, old SP 10, old FBR 10, cells written 10, 22 zeros"
-const PC_WEIGHT: u64 = 0x0010_0000_0000_0000;
+pub const PC_WEIGHT: u64 = 0x0010_0000_0000_0000;
 
-const SP_WEIGHT: u64 = 0x0000_0400_0000_0000;
+pub const SP_WEIGHT: u64 = 0x0000_0400_0000_0000;
 
-const FBR_WEIGHT: u64 = 0x0000_0001_0000_0000;
+pub const FBR_WEIGHT: u64 = 0x0000_0001_0000_0000;
 
-const COUNT_WEIGHT: u64 = 0x0000_0000_0040_0000;
+pub const COUNT_WEIGHT: u64 = 0x0000_0000_0040_0000;
 
 // An address, SP, FBR and a count of cells have ten bits.
 const CELL_SPAN: u64 = 0x400;
@@ -36,24 +35,6 @@ const TAG_SPAN: u64 = 0x4;
 const BITS_SPAN: u64 = 0x1_0000_0000;
 
 const PC_SPAN: u64 = 0x800;
-
-// The cell place that keeps a cell's old tag and bits.
-pub fn cell_place(address: usize, tag: u8, bits: u32) -> u64
-    ensures { λ r. ⌜ r ≡ cellPlace address tag bits ⌝ }
-{
-    (address as u64 % CELL_SPAN) * ADDRESS_WEIGHT
-        + (tag as u64 % TAG_SPAN) * TAG_WEIGHT
-        + bits as u64 * BITS_WEIGHT
-}
-
-// The step place that keeps the old PC, SP and FBR, and tells how many cells were written.
-pub fn step_place(pc: usize, sp: usize, fbr: usize, count: usize) -> u64
-    ensures { λ r. ⌜ r ≡ stepPlace pc sp fbr count ⌝ }
-{
-    let marked = MARK_WEIGHT + (pc as u64 % PC_SPAN) * PC_WEIGHT;
-    let stack = (sp as u64 % CELL_SPAN) * SP_WEIGHT + (fbr as u64 % CELL_SPAN) * FBR_WEIGHT;
-    marked + stack + (count as u64 % CELL_SPAN) * COUNT_WEIGHT
-}
 
 // The mark of a place.
 pub fn mark_of(place: u64) -> u64

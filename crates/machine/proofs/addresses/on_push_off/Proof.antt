@@ -14,14 +14,14 @@ enum-known-to c = search needs
 cell-at-requires : tie.Need-cell-at-requires
 cell-at-requires c κs = search needs
 
-result-requires : tie.Need-result-requires
-result-requires c κs = search needs
+pushed-requires : tie.Need-pushed-requires
+pushed-requires c κs = search needs
 
 returns : tie.Need-returns
 unfolding planned
 returns c m =
     let a = c .before .before .before .before .before .before .before .before .before .before .before .args in
-    rw (c .result .ensures m, c .before .cell-at .ensures, frame-in (a .r) (a .offset) (a .r .sp) (c .before .before .before .before .before .before .to .given .0 .0) (rw (c .before .before .before .before .before .before .to .given .1) at (c .before .before .before .before .before .before .before .before .moved-by .ensures)) (c .before .before .if1 .taken), frame-at (a .r) (a .offset) (c .before .before .before .before .before .before .to .given .0 .0) (rw (c .before .before .before .before .before .before .to .given .1) at (c .before .before .before .before .before .before .before .before .moved-by .ensures)))
+    rw (c .pushed .ensures m, c .before .cell-at .ensures, frame-in (a .r) (a .offset) (a .r .sp) (c .before .before .before .before .before .before .to .given .0 .0) (rw (c .before .before .before .before .before .before .to .given .1) at (c .before .before .before .before .before .before .before .before .moved-by .ensures)) (c .before .before .if1 .taken), frame-at (a .r) (a .offset) (c .before .before .before .before .before .before .to .given .0 .0) (rw (c .before .before .before .before .before .before .to .given .1) at (c .before .before .before .before .before .before .before .before .moved-by .ensures)))
 
 enum-told : tie.Need-enum-told
 enum-told c = search needs
@@ -45,7 +45,7 @@ on-push-off-spec =
     moved-by-requires
     enum-known-to
     cell-at-requires
-    result-requires
+    pushed-requires
     returns
     enum-told
     returns-2

@@ -1,6 +1,7 @@
 -- `machine::addresses::on_store_ind` meets its contract. Assumes nothing.
-use mathlib.Core.Path.{sym, _∙_}
+use mathlib.Core.Path.{sym, ap, _∙_}
 use borrow.Author.Tests.{lt-leb, le-leb, ne-eqb, not-true, not-false}
+use Rattle.rules.specs.declared.Cell.{Cell}
 use Rattle.machine.specs.Plan.{planned}
 use borrow.Author.Needs.{needs}
 use Rattle.machine.proofs.addresses.on_store_ind.Statement.{statement}
@@ -10,16 +11,19 @@ returns : tie.Need-returns
 unfolding planned
 returns c m = rw (lt-leb _ _ (c .if1 .taken))
 
+second-requires : tie.Need-second-requires
+second-requires c κs = search needs
+
 returns-2 : tie.Need-returns-2
 unfolding planned
-returns-2 c m = rw (le-leb _ _ (c .before .before .if1 .left), ne-eqb _ _ (c .if2 .taken))
+returns-2 c m = rw (le-leb _ _ (c .before .before .before .if1 .left), sym (ap (λ (z : Cell). z .tag) (c .before .before .second .ensures)), ne-eqb _ _ (c .if2 .taken))
 
 inside-requires : tie.Need-inside-requires
 inside-requires c κs = search needs
 
 returns-3 : tie.Need-returns-3
 unfolding planned
-returns-3 c m = rw (le-leb _ _ (c .before .before .before .before .before .if1 .left), c .before .before .before .if2 .left, sym (c .before .inside .ensures) ∙ not-true _ (c .if3 .taken))
+returns-3 c m = rw (le-leb _ _ (c .before .before .before .before .before .before .if1 .left), sym (ap (λ (z : Cell). z .tag) (c .before .before .before .before .before .second .ensures)), c .before .before .before .if2 .left, sym (ap (λ (z : Cell). z .bits) (c .before .before .before .before .before .second .ensures)), sym (c .before .inside .ensures) ∙ not-true _ (c .if3 .taken))
 
 memory-address-requires : tie.Need-memory-address-requires
 memory-address-requires c κs = search needs
@@ -29,16 +33,7 @@ stored-requires c κs = search needs
 
 returns-4 : tie.Need-returns-4
 unfolding planned
-returns-4 c m = rw (c .stored .ensures m, c .before .memory-address .ensures, le-leb _ _ (c .before .before .before .before .before .before .before .if1 .left), c .before .before .before .before .before .if2 .left, sym (c .before .before .before .inside .ensures) ∙ not-false _ (c .before .before .if3 .left))
+returns-4 c m = rw (c .stored .ensures m, c .before .memory-address .ensures, le-leb _ _ (c .before .before .before .before .before .before .before .before .if1 .left), sym (ap (λ (z : Cell). z .tag) (c .before .before .before .before .before .before .before .second .ensures)), c .before .before .before .before .before .if2 .left, sym (ap (λ (z : Cell). z .bits) (c .before .before .before .before .before .before .before .second .ensures)), sym (c .before .before .before .inside .ensures) ∙ not-false _ (c .before .before .if3 .left))
 
 pub on-store-ind-spec : {M : Type 1} → statement M
-on-store-ind-spec =
-    tie.close
-    (tie.spec
-    returns
-    returns-2
-    inside-requires
-    returns-3
-    memory-address-requires
-    stored-requires
-    returns-4)
+on-store-ind-spec = tie.close (tie.spec returns second-requires returns-2 inside-requires returns-3 memory-address-requires stored-requires returns-4)

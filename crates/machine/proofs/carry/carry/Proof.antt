@@ -1,13 +1,13 @@
 -- `machine::carry::carry` meets its contract, shape by shape. Assumes nothing.
-use mathlib.Core.Path.{sym, ap, _∙_}
-use Rattle.rules.specs.Cells.{cells, cellAt}
+use mathlib.Core.Path.{refl, sym, subst, _∙_}
+use native.Mathlib.Omega.{arith}
 use Rattle.rules.specs.State.{memory}
-use Rattle.rules.specs.Step.{fitted, carried}
-use Rattle.rules.specs.declared.Decision.{Decision}
+use Rattle.rules.specs.declared.Effect.{Effect}
 use Rattle.rules.specs.declared.MachineRefusal.the-variants as refusal
-use Rattle.machine.specs.Plan.{jumps, writes, rarely}
-use Rattle.machine.specs.declared.plans.Shape.the-variants.{Jump, Write, Rare, TooFewValues, WrongTag, NoResult, BadAddress}
-use Rattle.machine.proofs.Carries.{carried-refused, planned-as}
+use Rattle.machine.specs.Fits.{Fits}
+use Rattle.machine.specs.Plan.{jumps, moves, frames, halts, results, stores, calls, links, swaps, fills}
+use Rattle.machine.specs.declared.plans.Shape.the-variants.{Jump, Move, Frame, Halt, Result, Store, Call, Link, Swap, Fill, TooFewValues, WrongTag, NoResult, BadAddress, StackFull}
+use Rattle.machine.proofs.Carries.{planned-as, carried-as, carried-refused}
 use borrow.Author.Needs.{needs}
 use Rattle.machine.proofs.carry.carry.Statement.{statement}
 use Rattle.machine.proofs.carry.carry.Tie as tie
@@ -15,52 +15,157 @@ use Rattle.machine.proofs.carry.carry.Tie as tie
 enum-told : tie.Need-enum-told
 enum-told c = search needs
 
-write-requires : tie.Need-write-requires
-write-requires c κs =
-    let a = c .before .before .before .before .before .before .before .before .args in
-    c .before .before .before .before .before .before .before .before .pre (writes (a .r) (a .d)) (planned-as (a .r) (cells (a .bits .now) (a .tags .now)) (a .d) Write (c .before .before .before .enum-told .given .1))
+results-requires : tie.Need-results-requires
+results-requires c κs =
+    let start = c .before .before .before .before .before in
+    let a = start .args in
+    let m = memory (a .bits .now) (a .tags .now) (a .history .now) in
+    let o = start .pre .1 (results (a .r) (a .d)) (planned-as (a .r) (a .d) Result (c .enum-told .given .1) (m .cells)) in
+    (start .pre .0 .0, omega (arith, o .block, o .tagged, o .fields .few))
+
+commit-requires : tie.Need-commit-requires
+commit-requires c κs =
+    let start = c .before .before .before .before .before .before .before .before .before in
+    let a = start .args in
+    let m = memory (a .bits .now) (a .tags .now) (a .history .now) in
+    subst (λ (z : Effect). Fits (a .r) z m) (sym (c .before .before .before .results .ensures)) (start .pre .1 (results (a .r) (a .d)) (planned-as (a .r) (a .d) Result (c .before .before .before .before .enum-told .given .1) (m .cells)))
 
 enum-told-2 : tie.Need-enum-told-2
 enum-told-2 c = search needs
 
-jump-requires : tie.Need-jump-requires
-jump-requires c κs =
-    let a = c .before .before .before .before .before .before .args in
-    let o = c .before .before .before .before .before .before .pre (jumps (a .r) (a .d .pc) (a .d .sp)) (planned-as (a .r) (cells (a .bits .now) (a .tags .now)) (a .d) Jump (c .before .enum-told2 .given .1)) in
-    (o .used, o .places, o .kept)
+jumps-requires : tie.Need-jumps-requires
+jumps-requires c κs = tt
+
+commit-requires-2 : tie.Need-commit-requires-2
+commit-requires-2 c κs =
+    let start = c .before .before .before .before .before .before .before .before .before in
+    let a = start .args in
+    let m = memory (a .bits .now) (a .tags .now) (a .history .now) in
+    subst (λ (z : Effect). Fits (a .r) z m) (sym (c .before .before .before .jumps .ensures)) (start .pre .1 (jumps (a .r) (a .d)) (planned-as (a .r) (a .d) Jump (c .before .before .before .before .enum-told2 .given .1) (m .cells)))
 
 enum-told-3 : tie.Need-enum-told-3
 enum-told-3 c = search needs
 
-carry-rare-requires : tie.Need-carry-rare-requires
-carry-rare-requires c κs =
-    let a = c .before .before .before .before .before .before .before .before .args in
+stores-requires : tie.Need-stores-requires
+stores-requires c κs = c .before .before .before .before .before .before .before .pre .0
+
+commit-requires-3 : tie.Need-commit-requires-3
+commit-requires-3 c κs =
+    let start = c .before .before .before .before .before .before .before .before .before .before .before in
+    let a = start .args in
     let m = memory (a .bits .now) (a .tags .now) (a .history .now) in
-    c .before .before .before .before .before .before .before .before .pre (rarely (a .d .rare) (a .r) (cellAt (m .cells) (record { 0 = a .d .at })) (a .d)) (planned-as (a .r) (m .cells) (a .d) Rare (c .before .before .before .enum-told3 .given .1))
+    subst (λ (z : Effect). Fits (a .r) z m) (sym (c .before .before .before .stores .ensures)) (start .pre .1 (stores (a .r) (m .cells) (a .d)) (planned-as (a .r) (a .d) Store (c .before .before .before .before .before .before .enum-told3 .given .1) (m .cells)))
 
 enum-told-4 : tie.Need-enum-told-4
 enum-told-4 c = search needs
 
-refused-requires : tie.Need-refused-requires
-refused-requires c κs = search needs
+calls-requires : tie.Need-calls-requires
+calls-requires c κs =
+    let start = c .before .before .before .before .before in
+    let a = start .args in
+    let m = memory (a .bits .now) (a .tags .now) (a .history .now) in
+    let o = start .pre .1 (calls (a .r) (a .d)) (planned-as (a .r) (a .d) Call (c .enum-told4 .given .1) (m .cells)) in
+    (start .pre .0 .0, omega (arith, o .block, o .tagged, o .fields .few))
+
+commit-requires-4 : tie.Need-commit-requires-4
+commit-requires-4 c κs =
+    let start = c .before .before .before .before .before .before .before .before .before in
+    let a = start .args in
+    let m = memory (a .bits .now) (a .tags .now) (a .history .now) in
+    subst (λ (z : Effect). Fits (a .r) z m) (sym (c .before .before .before .calls .ensures)) (start .pre .1 (calls (a .r) (a .d)) (planned-as (a .r) (a .d) Call (c .before .before .before .before .enum-told4 .given .1) (m .cells)))
 
 enum-told-5 : tie.Need-enum-told-5
 enum-told-5 c = search needs
 
-refused-requires-2 : tie.Need-refused-requires-2
-refused-requires-2 c κs = search needs
+links-requires : tie.Need-links-requires
+links-requires c κs = c .before .before .before .before .before .pre .0 .0
+
+commit-requires-5 : tie.Need-commit-requires-5
+commit-requires-5 c κs =
+    let start = c .before .before .before .before .before .before .before .before .before in
+    let a = start .args in
+    let m = memory (a .bits .now) (a .tags .now) (a .history .now) in
+    subst (λ (z : Effect). Fits (a .r) z m) (sym (c .before .before .before .links .ensures)) (start .pre .1 (links (a .r)) (planned-as (a .r) (a .d) Link (c .before .before .before .before .enum-told5 .given .1) (m .cells)))
 
 enum-told-6 : tie.Need-enum-told-6
 enum-told-6 c = search needs
 
-refused-requires-3 : tie.Need-refused-requires-3
-refused-requires-3 c κs = search needs
+moves-requires : tie.Need-moves-requires
+moves-requires c κs = c .before .before .before .before .before .pre .0 .0
+
+commit-requires-6 : tie.Need-commit-requires-6
+commit-requires-6 c κs =
+    let start = c .before .before .before .before .before .before .before .before .before in
+    let a = start .args in
+    let m = memory (a .bits .now) (a .tags .now) (a .history .now) in
+    subst (λ (z : Effect). Fits (a .r) z m) (sym (c .before .before .before .moves .ensures)) (start .pre .1 (moves (a .r) (a .d)) (planned-as (a .r) (a .d) Move (c .before .before .before .before .enum-told6 .given .1) (m .cells)))
 
 enum-told-7 : tie.Need-enum-told-7
 enum-told-7 c = search needs
 
-refused-requires-4 : tie.Need-refused-requires-4
-refused-requires-4 c κs = search needs
+frames-requires : tie.Need-frames-requires
+frames-requires c κs = c .before .before .before .before .before .pre .0 .0
+
+commit-requires-7 : tie.Need-commit-requires-7
+commit-requires-7 c κs =
+    let start = c .before .before .before .before .before .before .before .before .before in
+    let a = start .args in
+    let m = memory (a .bits .now) (a .tags .now) (a .history .now) in
+    subst (λ (z : Effect). Fits (a .r) z m) (sym (c .before .before .before .frames .ensures)) (start .pre .1 (frames (a .r) (a .d)) (planned-as (a .r) (a .d) Frame (c .before .before .before .before .enum-told7 .given .1) (m .cells)))
+
+enum-told-8 : tie.Need-enum-told-8
+enum-told-8 c = search needs
+
+halts-requires : tie.Need-halts-requires
+halts-requires c κs = tt
+
+commit-requires-8 : tie.Need-commit-requires-8
+commit-requires-8 c κs =
+    let start = c .before .before .before .before .before .before .before .before .before in
+    let a = start .args in
+    let m = memory (a .bits .now) (a .tags .now) (a .history .now) in
+    subst (λ (z : Effect). Fits (a .r) z m) (sym (c .before .before .before .halts .ensures)) (start .pre .1 (halts (a .r)) (planned-as (a .r) (a .d) Halt (c .before .before .before .before .enum-told8 .given .1) (m .cells)))
+
+enum-told-9 : tie.Need-enum-told-9
+enum-told-9 c = search needs
+
+swaps-requires : tie.Need-swaps-requires
+swaps-requires c κs = c .before .before .before .before .before .before .before .pre .0
+
+commit-requires-9 : tie.Need-commit-requires-9
+commit-requires-9 c κs =
+    let start = c .before .before .before .before .before .before .before .before .before .before .before in
+    let a = start .args in
+    let m = memory (a .bits .now) (a .tags .now) (a .history .now) in
+    subst (λ (z : Effect). Fits (a .r) z m) (sym (c .before .before .before .swaps .ensures)) (start .pre .1 (swaps (a .r) (m .cells)) (planned-as (a .r) (a .d) Swap (c .before .before .before .before .before .before .enum-told9 .given .1) (m .cells)))
+
+enum-told-10 : tie.Need-enum-told-10
+enum-told-10 c = search needs
+
+fills-requires : tie.Need-fills-requires
+fills-requires c κs = c .before .before .before .before .before .pre .0 .0
+
+commit-requires-10 : tie.Need-commit-requires-10
+commit-requires-10 c κs =
+    let start = c .before .before .before .before .before .before .before .before .before in
+    let a = start .args in
+    let m = memory (a .bits .now) (a .tags .now) (a .history .now) in
+    subst (λ (z : Effect). Fits (a .r) z m) (sym (c .before .before .before .fills .ensures)) (start .pre .1 (fills (a .r) (a .d)) (planned-as (a .r) (a .d) Fill (c .before .before .before .before .enum-told10 .given .1) (m .cells)))
+
+enum-told-11 : tie.Need-enum-told-11
+enum-told-11 c = search needs
+
+enum-told-12 : tie.Need-enum-told-12
+enum-told-12 c = search needs
+
+enum-told-13 : tie.Need-enum-told-13
+enum-told-13 c = search needs
+
+enum-told-14 : tie.Need-enum-told-14
+enum-told-14 c = search needs
+
+enum-told-15 : tie.Need-enum-told-15
+enum-told-15 c = search needs
 
 same-length : tie.Need-same-length
 same-length c = search needs
@@ -73,18 +178,12 @@ same-length-3 c = search needs
 
 returns : tie.Need-returns
 returns c =
-    let a = c .before .before .before .before .before .before .before .before .before .before .before .before .before .before .before .args in
+    let a = c .before .before .before .before .before .before .before .before .before .before .before .before .before .before .before .before .args in
     let m = memory (a .bits .now) (a .tags .now) (a .history .now) in
-    c .before .before .before .before .before .before .write .ensures ∙ ap (λ (z : Decision). carried (a .r) m (fitted (a .r) z)) (sym (planned-as (a .r) (m .cells) (a .d) Write (c .before .before .before .before .before .before .before .before .before .before .enum-told .given .1)))
+    c .before .before .before .before .before .before .commit .ensures ∙ carried-as (a .r) (a .d) Result (c .before .before .before .before .before .before .before .before .before .before .before .enum-told .given .1) m _ (results (a .r) (a .d)) (c .before .before .before .before .before .before .before .before .before .before .results .ensures) refl
 
 same-length-4 : tie.Need-same-length-4
 same-length-4 c = search needs
-
-returns-2 : tie.Need-returns-2
-returns-2 c =
-    let a = c .before .before .before .before .before .before .before .before .before .args in
-    let m = memory (a .bits .now) (a .tags .now) (a .history .now) in
-    c .before .before .jump .ensures (a .bits .now) (a .tags .now) ∙ ap (λ (z : Decision). carried (a .r) m (fitted (a .r) z)) (sym (planned-as (a .r) (m .cells) (a .d) Jump (c .before .before .before .before .enum-told2 .given .1)))
 
 same-length-5 : tie.Need-same-length-5
 same-length-5 c = search needs
@@ -92,68 +191,238 @@ same-length-5 c = search needs
 same-length-6 : tie.Need-same-length-6
 same-length-6 c = search needs
 
+returns-2 : tie.Need-returns-2
+returns-2 c =
+    let a = c .before .before .before .before .before .before .before .before .before .before .before .before .before .before .before .before .args in
+    let m = memory (a .bits .now) (a .tags .now) (a .history .now) in
+    c .before .before .before .before .before .before .commit2 .ensures ∙ carried-as (a .r) (a .d) Jump (c .before .before .before .before .before .before .before .before .before .before .before .enum-told2 .given .1) m _ (jumps (a .r) (a .d)) (c .before .before .before .before .before .before .before .before .before .before .jumps .ensures) refl
+
 same-length-7 : tie.Need-same-length-7
 same-length-7 c = search needs
 
+same-length-8 : tie.Need-same-length-8
+same-length-8 c = search needs
+
+same-length-9 : tie.Need-same-length-9
+same-length-9 c = search needs
+
 returns-3 : tie.Need-returns-3
 returns-3 c =
-    let a = c .before .before .before .before .before .before .before .before .before .before .before .before .before .before .before .args in
+    let a = c .before .before .before .before .before .before .before .before .before .before .before .before .before .before .before .before .before .before .args in
     let m = memory (a .bits .now) (a .tags .now) (a .history .now) in
-    c .before .before .before .before .before .before .carry-rare .ensures ∙ ap (λ (z : Decision). carried (a .r) m (fitted (a .r) z)) (sym (planned-as (a .r) (m .cells) (a .d) Rare (c .before .before .before .before .before .before .before .before .before .before .enum-told3 .given .1)))
+    c .before .before .before .before .before .before .commit3 .ensures ∙ carried-as (a .r) (a .d) Store (c .before .before .before .before .before .before .before .before .before .before .before .before .before .enum-told3 .given .1) m _ (stores (a .r) (m .cells) (a .d)) (c .before .before .before .before .before .before .before .before .before .before .stores .ensures) refl
+
+same-length-10 : tie.Need-same-length-10
+same-length-10 c = search needs
+
+same-length-11 : tie.Need-same-length-11
+same-length-11 c = search needs
+
+same-length-12 : tie.Need-same-length-12
+same-length-12 c = search needs
 
 returns-4 : tie.Need-returns-4
 returns-4 c =
-    let a = c .before .before .before .before .before .before .args in
+    let a = c .before .before .before .before .before .before .before .before .before .before .before .before .before .before .before .before .args in
     let m = memory (a .bits .now) (a .tags .now) (a .history .now) in
-    carried-refused (a .r) m _ refusal.TooFewValues _ (c .refused .ensures) (planned-as (a .r) (m .cells) (a .d) TooFewValues (c .before .enum-told4 .given .1))
+    c .before .before .before .before .before .before .commit4 .ensures ∙ carried-as (a .r) (a .d) Call (c .before .before .before .before .before .before .before .before .before .before .before .enum-told4 .given .1) m _ (calls (a .r) (a .d)) (c .before .before .before .before .before .before .before .before .before .before .calls .ensures) refl
+
+same-length-13 : tie.Need-same-length-13
+same-length-13 c = search needs
+
+same-length-14 : tie.Need-same-length-14
+same-length-14 c = search needs
+
+same-length-15 : tie.Need-same-length-15
+same-length-15 c = search needs
 
 returns-5 : tie.Need-returns-5
 returns-5 c =
-    let a = c .before .before .before .before .before .before .args in
+    let a = c .before .before .before .before .before .before .before .before .before .before .before .before .before .before .before .before .args in
     let m = memory (a .bits .now) (a .tags .now) (a .history .now) in
-    carried-refused (a .r) m _ refusal.WrongTag _ (c .refused2 .ensures) (planned-as (a .r) (m .cells) (a .d) WrongTag (c .before .enum-told5 .given .1))
+    c .before .before .before .before .before .before .commit5 .ensures ∙ carried-as (a .r) (a .d) Link (c .before .before .before .before .before .before .before .before .before .before .before .enum-told5 .given .1) m _ (links (a .r)) (c .before .before .before .before .before .before .before .before .before .before .links .ensures) refl
+
+same-length-16 : tie.Need-same-length-16
+same-length-16 c = search needs
+
+same-length-17 : tie.Need-same-length-17
+same-length-17 c = search needs
+
+same-length-18 : tie.Need-same-length-18
+same-length-18 c = search needs
 
 returns-6 : tie.Need-returns-6
 returns-6 c =
-    let a = c .before .before .before .before .before .before .args in
+    let a = c .before .before .before .before .before .before .before .before .before .before .before .before .before .before .before .before .args in
     let m = memory (a .bits .now) (a .tags .now) (a .history .now) in
-    carried-refused (a .r) m _ refusal.NoResult _ (c .refused3 .ensures) (planned-as (a .r) (m .cells) (a .d) NoResult (c .before .enum-told6 .given .1))
+    c .before .before .before .before .before .before .commit6 .ensures ∙ carried-as (a .r) (a .d) Move (c .before .before .before .before .before .before .before .before .before .before .before .enum-told6 .given .1) m _ (moves (a .r) (a .d)) (c .before .before .before .before .before .before .before .before .before .before .moves .ensures) refl
+
+same-length-19 : tie.Need-same-length-19
+same-length-19 c = search needs
+
+same-length-20 : tie.Need-same-length-20
+same-length-20 c = search needs
+
+same-length-21 : tie.Need-same-length-21
+same-length-21 c = search needs
 
 returns-7 : tie.Need-returns-7
 returns-7 c =
-    let a = c .before .before .before .before .before .before .args in
+    let a = c .before .before .before .before .before .before .before .before .before .before .before .before .before .before .before .before .args in
     let m = memory (a .bits .now) (a .tags .now) (a .history .now) in
-    carried-refused (a .r) m _ refusal.BadAddress _ (c .refused4 .ensures) (planned-as (a .r) (m .cells) (a .d) BadAddress (c .before .enum-told7 .given .1))
+    c .before .before .before .before .before .before .commit7 .ensures ∙ carried-as (a .r) (a .d) Frame (c .before .before .before .before .before .before .before .before .before .before .before .enum-told7 .given .1) m _ (frames (a .r) (a .d)) (c .before .before .before .before .before .before .before .before .before .before .frames .ensures) refl
+
+same-length-22 : tie.Need-same-length-22
+same-length-22 c = search needs
+
+same-length-23 : tie.Need-same-length-23
+same-length-23 c = search needs
+
+same-length-24 : tie.Need-same-length-24
+same-length-24 c = search needs
+
+returns-8 : tie.Need-returns-8
+returns-8 c =
+    let a = c .before .before .before .before .before .before .before .before .before .before .before .before .before .before .before .before .args in
+    let m = memory (a .bits .now) (a .tags .now) (a .history .now) in
+    c .before .before .before .before .before .before .commit8 .ensures ∙ carried-as (a .r) (a .d) Halt (c .before .before .before .before .before .before .before .before .before .before .before .enum-told8 .given .1) m _ (halts (a .r)) (c .before .before .before .before .before .before .before .before .before .before .halts .ensures) refl
+
+same-length-25 : tie.Need-same-length-25
+same-length-25 c = search needs
+
+same-length-26 : tie.Need-same-length-26
+same-length-26 c = search needs
+
+same-length-27 : tie.Need-same-length-27
+same-length-27 c = search needs
+
+returns-9 : tie.Need-returns-9
+returns-9 c =
+    let a = c .before .before .before .before .before .before .before .before .before .before .before .before .before .before .before .before .before .before .args in
+    let m = memory (a .bits .now) (a .tags .now) (a .history .now) in
+    c .before .before .before .before .before .before .commit9 .ensures ∙ carried-as (a .r) (a .d) Swap (c .before .before .before .before .before .before .before .before .before .before .before .before .before .enum-told9 .given .1) m _ (swaps (a .r) (m .cells)) (c .before .before .before .before .before .before .before .before .before .before .swaps .ensures) refl
+
+same-length-28 : tie.Need-same-length-28
+same-length-28 c = search needs
+
+same-length-29 : tie.Need-same-length-29
+same-length-29 c = search needs
+
+same-length-30 : tie.Need-same-length-30
+same-length-30 c = search needs
+
+returns-10 : tie.Need-returns-10
+returns-10 c =
+    let a = c .before .before .before .before .before .before .before .before .before .before .before .before .before .before .before .before .args in
+    let m = memory (a .bits .now) (a .tags .now) (a .history .now) in
+    c .before .before .before .before .before .before .commit10 .ensures ∙ carried-as (a .r) (a .d) Fill (c .before .before .before .before .before .before .before .before .before .before .before .enum-told10 .given .1) m _ (fills (a .r) (a .d)) (c .before .before .before .before .before .before .before .before .before .before .fills .ensures) refl
+
+returns-11 : tie.Need-returns-11
+returns-11 c =
+    let a = c .before .before .before .before .before .args in
+    carried-refused (a .r) (a .d) TooFewValues (c .enum-told11 .given .1) (memory (a .bits .now) (a .tags .now) (a .history .now)) refusal.TooFewValues refl
+
+returns-12 : tie.Need-returns-12
+returns-12 c =
+    let a = c .before .before .before .before .before .args in
+    carried-refused (a .r) (a .d) WrongTag (c .enum-told12 .given .1) (memory (a .bits .now) (a .tags .now) (a .history .now)) refusal.WrongTag refl
+
+returns-13 : tie.Need-returns-13
+returns-13 c =
+    let a = c .before .before .before .before .before .args in
+    carried-refused (a .r) (a .d) NoResult (c .enum-told13 .given .1) (memory (a .bits .now) (a .tags .now) (a .history .now)) refusal.NoResult refl
+
+returns-14 : tie.Need-returns-14
+returns-14 c =
+    let a = c .before .before .before .before .before .args in
+    carried-refused (a .r) (a .d) BadAddress (c .enum-told14 .given .1) (memory (a .bits .now) (a .tags .now) (a .history .now)) refusal.BadAddress refl
+
+returns-15 : tie.Need-returns-15
+returns-15 c =
+    let a = c .before .before .before .before .before .args in
+    carried-refused (a .r) (a .d) StackFull (c .enum-told15 .given .1) (memory (a .bits .now) (a .tags .now) (a .history .now)) refusal.StackFull refl
 
 pub carry-spec : {M : Type 1} → statement M
 carry-spec =
     tie.close
     (tie.spec
     enum-told
-    write-requires
+    results-requires
+    commit-requires
     enum-told-2
-    jump-requires
+    jumps-requires
+    commit-requires-2
     enum-told-3
-    carry-rare-requires
+    stores-requires
+    commit-requires-3
     enum-told-4
-    refused-requires
+    calls-requires
+    commit-requires-4
     enum-told-5
-    refused-requires-2
+    links-requires
+    commit-requires-5
     enum-told-6
-    refused-requires-3
+    moves-requires
+    commit-requires-6
     enum-told-7
-    refused-requires-4
+    frames-requires
+    commit-requires-7
+    enum-told-8
+    halts-requires
+    commit-requires-8
+    enum-told-9
+    swaps-requires
+    commit-requires-9
+    enum-told-10
+    fills-requires
+    commit-requires-10
+    enum-told-11
+    enum-told-12
+    enum-told-13
+    enum-told-14
+    enum-told-15
     same-length
     same-length-2
     same-length-3
     returns
     same-length-4
-    returns-2
     same-length-5
     same-length-6
+    returns-2
     same-length-7
+    same-length-8
+    same-length-9
     returns-3
+    same-length-10
+    same-length-11
+    same-length-12
     returns-4
+    same-length-13
+    same-length-14
+    same-length-15
     returns-5
+    same-length-16
+    same-length-17
+    same-length-18
     returns-6
-    returns-7)
+    same-length-19
+    same-length-20
+    same-length-21
+    returns-7
+    same-length-22
+    same-length-23
+    same-length-24
+    returns-8
+    same-length-25
+    same-length-26
+    same-length-27
+    returns-9
+    same-length-28
+    same-length-29
+    same-length-30
+    returns-10
+    returns-11
+    returns-12
+    returns-13
+    returns-14
+    returns-15)

@@ -37,13 +37,16 @@ shared-slice-read-cell-place-2 : tie.Need-shared-slice-read-cell-place-2 Inv-loo
 shared-slice-read-cell-place-2 c = search needs
 
 cell-place-requires : tie.Need-cell-place-requires Inv-loop μ-loop
-cell-place-requires c κs = search needs
+cell-place-requires c κs =
+    let a = c .before .before .before .before .before .before .before .args in
+    let f = c .before .before .before .before .before .before .before .pre .1 in
+    (omega (arith, c .before .before .before .before .before .before .before .pre .0, f .few, c .before .before .loop-test .taken), f .tag (a .e .at + c .before .before .before .loop .i))
 
 mul-history : tie.Need-mul-history Inv-loop μ-loop
 mul-history c = search needs
 
 slice-write-history : tie.Need-slice-write-history Inv-loop μ-loop
-slice-write-history c = omega (arith, c .before .before .before .before .before .before .before .before .pre, c .before .before .before .before .loop .inv .1 .len)
+slice-write-history c = omega (arith, c .before .before .before .before .before .before .before .before .pre .0, c .before .before .before .before .loop .inv .1 .len)
 
 add-i : tie.Need-add-i Inv-loop μ-loop
 add-i c = search needs
@@ -57,8 +60,8 @@ loop-again c =
     let a = start .args in
     let l = c .before .before .before .before .loop in
     let test = c .before .before .before .loop-test .taken in
-    let ht : a .e .at + a .e .count ≤ length (a .tags .now) = omega (arith, start .pre) in
-    let hb : a .e .at + a .e .count ≤ length (a .bits .now) = start .pre .1 .0 in
+    let ht : a .e .at + a .e .count ≤ length (a .tags .now) = omega (arith, start .pre .0) in
+    let hb : a .e .at + a .e .count ≤ length (a .bits .now) = start .pre .0 .1 .0 in
     let n = kept-length (a .e .at) (a .e .count) (a .tags .now) (a .bits .now) ht hb in (
       omega (arith, test),
       stored-more (c .cell-place .result) (l .inv .1) (omega (arith, test, n))
@@ -69,13 +72,15 @@ add-last : tie.Need-add-last Inv-loop μ-loop
 add-last c = search needs
 
 step-place-requires : tie.Need-step-place-requires Inv-loop μ-loop
-step-place-requires c κs = search needs
+step-place-requires c κs =
+    let f = c .before .before .before .before .before .pre .1 in
+    (f .small .0, f .small .1, f .small .2, omega (arith, c .before .before .before .before .before .pre .0, f .few))
 
 mul-history-2 : tie.Need-mul-history-2 Inv-loop μ-loop
 mul-history-2 c = search needs
 
 slice-write-history-2 : tie.Need-slice-write-history-2 Inv-loop μ-loop
-slice-write-history-2 c = omega (arith, c .before .before .before .before .before .before .pre, c .before .before .loop .inv .1 .len, c .before .loop-test .left)
+slice-write-history-2 c = omega (arith, c .before .before .before .before .before .before .pre .0, c .before .before .loop .inv .1 .len, c .before .loop-test .left)
 
 same-length : tie.Need-same-length Inv-loop μ-loop
 same-length c = search needs
@@ -85,10 +90,10 @@ returns c =
     let start = c .before .before .before .before .before .before in
     let a = start .args in
     let l = c .before .before .loop in
-    let ht : a .e .at + a .e .count ≤ length (a .tags .now) = omega (arith, start .pre) in
-    let hb : a .e .at + a .e .count ≤ length (a .bits .now) = start .pre .1 .0 in
+    let ht : a .e .at + a .e .count ≤ length (a .tags .now) = omega (arith, start .pre .0) in
+    let hb : a .e .at + a .e .count ≤ length (a .bits .now) = start .pre .0 .1 .0 in
     let n = kept-length (a .e .at) (a .e .count) (a .tags .now) (a .bits .now) ht hb in
-    let room : a .r .used + (a .e .count + 1) ≤ length (a .history .now) = start .pre .1 .1 in
+    let room : a .r .used + (a .e .count + 1) ≤ length (a .history .now) = start .pre .0 .1 .1 in
     record-ends (a .history .now) (l .history)
     (cellPlaces (a .e .at) (part (a .e .at) (a .e .count) (a .tags .now)) (part (a .e .at) (a .e .count) (a .bits .now)))
     (a .r .used) (a .e .count) _ n room (l .inv .1 .len)

@@ -14,8 +14,8 @@ returns c =
     let a = start .args in
     let e = a .e in
     let fits : e .at + e .count ≤ length (a .tags .now) = omega (arith, start .pre) in (
-      put-none (a .bits .now) (e .at) (e .count) (e .first .bits) (e .second .bits) (start .pre .1) (c .if1 .taken),
-      put-none (a .tags .now) (e .at) (e .count) (e .first .tag) (e .second .tag) fits (c .if1 .taken),
+      put-none (a .bits .now) (e .at) (e .count) (e .first .bits) (e .second .bits) (c .if1 .taken),
+      put-none (a .tags .now) (e .at) (e .count) (e .first .tag) (e .second .tag) (c .if1 .taken),
     )
 
 mul-bits : tie.Need-mul-bits

@@ -2,7 +2,7 @@
 use lib.IntN.{_+ℤ_, _-ℤ_}
 use Rattle.rules.specs.Words.{signed}
 use Rattle.rules.specs.Instructions.{rows, rowOf, actionOf}
-use Rattle.machine.proofs.Pairs.{first-pair}
+use Rattle.machine.proofs.Values.{left-pair}
 use Rattle.machine.proofs.decide.on_pair.Statement.{statement}
 use Rattle.machine.proofs.decide.on_pair.Tie as tie
 
@@ -249,7 +249,7 @@ returns-24 : tie.Need-returns-24
 unfolding actionOf rowOf rows
 returns-24 c m n =
     let a = c .before .before .before .before .args in
-    rw (first-pair _ (c .before .before .before .before .pre .2) (c .before .before .before .match .rest))
+    rw (left-pair _ (c .before .before .before .before .pre .2) (c .before .before .before .match .rest))
     (c .on-sums2 .ensures (signed (a .vb .bits) +ℤ signed (a .vt .bits)) (c .before .before .plus .ensures) (c .before .plus-in-word .ensures) m)
 
 pub on-pair-spec : {M : Type 1} → statement M

@@ -1,10 +1,11 @@
 -- `machine::decide::on_two` meets its contract. Assumes nothing.
 use Prim.Native.Nat.{_-_}
-use mathlib.Core.Path.{sym, _∙_}
+use mathlib.Core.Path.{sym, ap, _∙_}
 use Rattle.rules.specs.Cells.{cells, cellAt}
 use Rattle.rules.specs.Decide.{decide}
+use Rattle.machine.specs.Stages.{stacked}
 use Rattle.machine.specs.Plan.{planned}
-use Rattle.machine.proofs.Pairs.{pair-few}
+use Rattle.machine.proofs.Values.{pair-few}
 use borrow.Author.Needs.{needs}
 use Rattle.machine.proofs.decide.on_two.Statement.{statement}
 use Rattle.machine.proofs.decide.on_two.Tie as tie
@@ -12,10 +13,11 @@ use Rattle.machine.proofs.decide.on_two.Tie as tie
 returns : tie.Need-returns
 unfolding decide planned
 returns c n =
-    let a = c .before .before .before .before .args in
-    let r = a .r in
+    let start = c .before .before .before .before in
+    let a = start .args in
     let m = cells (a .bits .now) (a .tags .now) in
-    sym (pair-few r m n (cellAt m (record { 0 = r .sp - 2 })) (cellAt m (record { 0 = r .sp - 1 })) (c .if1 .taken) (a .code) (c .before .before .before .before .pre .2))
+    ap (stacked (a .r))
+    (sym (pair-few (a .r) m n (cellAt m (record { 0 = a .r .sp - 2 })) (cellAt m (record { 0 = a .r .sp - 1 })) (c .if1 .taken) (a .code) (start .pre .2)))
 
 second-requires : tie.Need-second-requires
 second-requires c κs = search needs

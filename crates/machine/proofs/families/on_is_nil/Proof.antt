@@ -1,13 +1,9 @@
 -- `machine::families::on_is_nil` meets its contract. Assumes nothing.
-use borrow.Author.Tests.{lt-leb, le-leb}
+use borrow.Author.Tests.{le-leb}
 use Rattle.machine.specs.Plan.{planned}
 use borrow.Author.Needs.{needs}
 use Rattle.machine.proofs.families.on_is_nil.Statement.{statement}
 use Rattle.machine.proofs.families.on_is_nil.Tie as tie
-
-returns : tie.Need-returns
-unfolding planned
-returns c m = rw (lt-leb _ _ (c .if1 .taken))
 
 same-value-requires : tie.Need-same-value-requires
 same-value-requires c κs = search needs
@@ -21,10 +17,9 @@ int-cell-requires c κs = search needs
 result-requires : tie.Need-result-requires
 result-requires c κs = search needs
 
-returns-2 : tie.Need-returns-2
+returns : tie.Need-returns
 unfolding planned
-returns-2 c m = rw (c .result .ensures m, c .before .int-cell .ensures, c .before .before .bit .ensures, c .before .before .before .same-value .ensures, le-leb _ _ (c .before .before .before .before .if1 .left))
+returns c m = rw (c .result .ensures m, c .before .int-cell .ensures, c .before .before .bit .ensures, c .before .before .before .same-value .ensures, le-leb _ _ (c .before .before .before .before .pre .1))
 
 pub on-is-nil-spec : {M : Type 1} → statement M
-on-is-nil-spec =
-    tie.close (tie.spec returns same-value-requires bit-requires int-cell-requires result-requires returns-2)
+on-is-nil-spec = tie.close (tie.spec same-value-requires bit-requires int-cell-requires result-requires returns)

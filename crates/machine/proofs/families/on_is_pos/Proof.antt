@@ -7,11 +7,11 @@ use Rattle.machine.proofs.families.on_is_pos.Tie as tie
 is-pos-requires : tie.Need-is-pos-requires
 is-pos-requires c κs = search needs
 
-on-one-requires : tie.Need-on-one-requires
-on-one-requires c κs = search needs
+on-int-requires : tie.Need-on-int-requires
+on-int-requires c κs = search needs
 
 returns : tie.Need-returns
-returns c m = rw (sym (c .before .is-pos .ensures)) (c .on-one .ensures m)
+returns c m = rw (sym (c .before .is-pos .ensures)) (c .on-int .ensures m)
 
 pub on-is-pos-spec : {M : Type 1} → statement M
-on-is-pos-spec = tie.close (tie.spec is-pos-requires on-one-requires returns)
+on-is-pos-spec = tie.close (tie.spec is-pos-requires on-int-requires returns)

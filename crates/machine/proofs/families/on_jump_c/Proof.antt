@@ -1,5 +1,5 @@
 -- `machine::families::on_jump_c` meets its contract. Assumes nothing.
-use borrow.Author.Tests.{lt-leb, le-leb, ne-eqb}
+use borrow.Author.Tests.{le-leb, ne-eqb}
 use Rattle.machine.specs.Plan.{planned}
 use borrow.Author.Needs.{needs}
 use Rattle.machine.proofs.families.on_jump_c.Statement.{statement}
@@ -7,30 +7,27 @@ use Rattle.machine.proofs.families.on_jump_c.Tie as tie
 
 returns : tie.Need-returns
 unfolding planned
-returns c m = rw (lt-leb _ _ (c .if1 .taken))
+returns c m = rw (le-leb _ _ (c .before .before .pre .1), ne-eqb _ _ (c .if1 .taken))
 
-returns-2 : tie.Need-returns-2
-unfolding planned
-returns-2 c m = rw (le-leb _ _ (c .before .before .if1 .left), ne-eqb _ _ (c .if2 .taken))
+add-jumped : tie.Need-add-jumped
+add-jumped c = search needs
 
-add-t9 : tie.Need-add-t9
-add-t9 c = search needs
+cast-jumped : tie.Need-cast-jumped
+cast-jumped c = search needs
 
 jumped-requires : tie.Need-jumped-requires
 jumped-requires c κs = search needs
 
-returns-3 : tie.Need-returns-3
+returns-2 : tie.Need-returns-2
 unfolding planned
-returns-3 c m = rw (c .jumped .ensures m, le-leb _ _ (c .before .before .before .before .before .before .if1 .left), c .before .before .before .before .if2 .left, c .before .before .if3 .taken)
+returns-2 c m = rw (c .jumped .ensures m, le-leb _ _ (c .before .before .before .before .before .before .pre .1), c .before .before .before .before .if1 .left, c .before .before .if2 .taken)
 
 jumped-requires-2 : tie.Need-jumped-requires-2
 jumped-requires-2 c κs = search needs
 
-returns-4 : tie.Need-returns-4
+returns-3 : tie.Need-returns-3
 unfolding planned
-returns-4 c m = rw (c .jumped2 .ensures m, le-leb _ _ (c .before .before .before .before .before .if1 .left), c .before .before .before .if2 .left, ne-eqb _ _ (c .before .if3 .left))
+returns-3 c m = rw (c .jumped2 .ensures m, le-leb _ _ (c .before .before .before .before .before .pre .1), c .before .before .before .if1 .left, ne-eqb _ _ (c .before .if2 .left))
 
 pub on-jump-c-spec : {M : Type 1} → statement M
-on-jump-c-spec =
-    tie.close
-    (tie.spec returns returns-2 add-t9 jumped-requires returns-3 jumped-requires-2 returns-4)
+on-jump-c-spec = tie.close (tie.spec returns add-jumped cast-jumped jumped-requires returns-2 jumped-requires-2 returns-3)

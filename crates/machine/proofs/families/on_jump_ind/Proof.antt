@@ -1,5 +1,5 @@
 -- `machine::families::on_jump_ind` meets its contract. Assumes nothing.
-use borrow.Author.Tests.{lt-leb, le-leb, ne-eqb}
+use borrow.Author.Tests.{le-leb, ne-eqb}
 use Rattle.machine.specs.Plan.{planned}
 use borrow.Author.Needs.{needs}
 use Rattle.machine.proofs.families.on_jump_ind.Statement.{statement}
@@ -7,21 +7,14 @@ use Rattle.machine.proofs.families.on_jump_ind.Tie as tie
 
 returns : tie.Need-returns
 unfolding planned
-returns c m = rw (lt-leb _ _ (c .if1 .taken))
-
-returns-2 : tie.Need-returns-2
-unfolding planned
-returns-2 c m = rw (le-leb _ _ (c .before .before .if1 .left), ne-eqb _ _ (c .if2 .taken))
-
-cast-t8 : tie.Need-cast-t8
-cast-t8 c = search needs
+returns c m = rw (le-leb _ _ (c .before .before .pre .1), ne-eqb _ _ (c .if1 .taken))
 
 jumped-requires : tie.Need-jumped-requires
 jumped-requires c κs = search needs
 
-returns-3 : tie.Need-returns-3
+returns-2 : tie.Need-returns-2
 unfolding planned
-returns-3 c m = rw (c .jumped .ensures m, le-leb _ _ (c .before .before .before .before .if1 .left), c .before .before .if2 .left)
+returns-2 c m = rw (c .jumped .ensures m, le-leb _ _ (c .before .before .before .pre .1), c .before .if1 .left)
 
 pub on-jump-ind-spec : {M : Type 1} → statement M
-on-jump-ind-spec = tie.close (tie.spec returns returns-2 cast-t8 jumped-requires returns-3)
+on-jump-ind-spec = tie.close (tie.spec returns jumped-requires returns-2)

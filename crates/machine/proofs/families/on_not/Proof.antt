@@ -7,11 +7,11 @@ use Rattle.machine.proofs.families.on_not.Tie as tie
 not-requires : tie.Need-not-requires
 not-requires c κs = search needs
 
-on-one-requires : tie.Need-on-one-requires
-on-one-requires c κs = search needs
+on-int-requires : tie.Need-on-int-requires
+on-int-requires c κs = search needs
 
 returns : tie.Need-returns
-returns c m = rw (sym (c .before .not .ensures)) (c .on-one .ensures m)
+returns c m = rw (sym (c .before .not .ensures)) (c .on-int .ensures m)
 
 pub on-not-spec : {M : Type 1} → statement M
-on-not-spec = tie.close (tie.spec not-requires on-one-requires returns)
+on-not-spec = tie.close (tie.spec not-requires on-int-requires returns)

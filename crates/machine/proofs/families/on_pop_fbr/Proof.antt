@@ -1,6 +1,6 @@
 -- `machine::families::on_pop_fbr` meets its contract. Assumes nothing.
 use mathlib.Core.Path.{sym, _∙_}
-use borrow.Author.Tests.{lt-leb, le-leb, ne-eqb, not-true, not-false}
+use borrow.Author.Tests.{le-leb, ne-eqb, not-true, not-false}
 use Rattle.machine.specs.Plan.{planned}
 use borrow.Author.Needs.{needs}
 use Rattle.machine.proofs.families.on_pop_fbr.Statement.{statement}
@@ -8,18 +8,14 @@ use Rattle.machine.proofs.families.on_pop_fbr.Tie as tie
 
 returns : tie.Need-returns
 unfolding planned
-returns c m = rw (lt-leb _ _ (c .if1 .taken))
-
-returns-2 : tie.Need-returns-2
-unfolding planned
-returns-2 c m = rw (le-leb _ _ (c .before .before .if1 .left), ne-eqb _ _ (c .if2 .taken))
+returns c m = rw (le-leb _ _ (c .before .before .pre .1), ne-eqb _ _ (c .if1 .taken))
 
 inside-requires : tie.Need-inside-requires
 inside-requires c κs = search needs
 
-returns-3 : tie.Need-returns-3
+returns-2 : tie.Need-returns-2
 unfolding planned
-returns-3 c m = rw (le-leb _ _ (c .before .before .before .before .if1 .left), c .before .before .if2 .left, sym (c .before .inside .ensures) ∙ not-true _ (c .if3 .taken))
+returns-2 c m = rw (le-leb _ _ (c .before .before .before .before .pre .1), c .before .before .if1 .left, sym (c .before .inside .ensures) ∙ not-true _ (c .if2 .taken))
 
 memory-address-requires : tie.Need-memory-address-requires
 memory-address-requires c κs = search needs
@@ -27,18 +23,9 @@ memory-address-requires c κs = search needs
 framed-requires : tie.Need-framed-requires
 framed-requires c κs = search needs
 
-returns-4 : tie.Need-returns-4
+returns-3 : tie.Need-returns-3
 unfolding planned
-returns-4 c m = rw (c .framed .ensures m, c .before .memory-address .ensures, le-leb _ _ (c .before .before .before .before .before .before .if1 .left), c .before .before .before .before .if2 .left, sym (c .before .before .before .inside .ensures) ∙ not-false _ (c .before .before .if3 .left))
+returns-3 c m = rw (c .framed .ensures m, c .before .memory-address .ensures, le-leb _ _ (c .before .before .before .before .before .before .pre .1), c .before .before .before .before .if1 .left, sym (c .before .before .before .inside .ensures) ∙ not-false _ (c .before .before .if2 .left))
 
 pub on-pop-fbr-spec : {M : Type 1} → statement M
-on-pop-fbr-spec =
-    tie.close
-    (tie.spec
-    returns
-    returns-2
-    inside-requires
-    returns-3
-    memory-address-requires
-    framed-requires
-    returns-4)
+on-pop-fbr-spec = tie.close (tie.spec returns inside-requires returns-2 memory-address-requires framed-requires returns-3)

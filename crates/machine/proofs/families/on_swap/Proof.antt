@@ -17,4 +17,9 @@ unfolding planned
 returns-2 c m = rw (c .swapped .ensures m, le-leb _ _ (c .before .if1 .left))
 
 pub on-swap-spec : {M : Type 1} → statement M
-on-swap-spec = tie.close (tie.spec returns swapped-requires returns-2)
+on-swap-spec =
+    tie.close
+    (tie.spec
+    returns
+    swapped-requires
+    returns-2)

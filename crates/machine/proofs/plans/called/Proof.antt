@@ -1,5 +1,7 @@
 -- `machine::plans::called` meets its contract. Assumes nothing.
+use Prim.Native.Nat.{_+_, _-_}
 use mathlib.Core.Path.{refl}
+use borrow.Author.Tests.{lt-ltb, le-ltb}
 use Rattle.machine.specs.Plan.{planned}
 use borrow.Author.Needs.{needs}
 use Rattle.machine.proofs.plans.called.Statement.{statement}
@@ -8,18 +10,16 @@ use Rattle.machine.proofs.plans.called.Tie as tie
 sub-at : tie.Need-sub-at
 sub-at c = search needs
 
-add-next : tie.Need-add-next
-add-next c = search needs
-
-add-t8 : tie.Need-add-t8
-add-t8 c = search needs
-
-cast-t9 : tie.Need-cast-t9
-cast-t9 c = search needs
+add-if1 : tie.Need-add-if1
+add-if1 c = search needs
 
 returns : tie.Need-returns
 unfolding planned
-returns c m = refl
+returns c m = let a = c .before .before .before .args in rw (le-ltb (a .r .sp - a .popped + 1) (a .r .n) (c .if1 .taken)) refl
+
+returns-2 : tie.Need-returns-2
+unfolding planned
+returns-2 c m = let a = c .before .before .before .args in rw (lt-ltb (a .r .sp - a .popped + 1) (a .r .n) (c .if1 .left)) refl
 
 pub called-spec : {M : Type 1} → statement M
-called-spec = tie.close (tie.spec sub-at add-next add-t8 cast-t9 returns)
+called-spec = tie.close (tie.spec sub-at add-if1 returns returns-2)

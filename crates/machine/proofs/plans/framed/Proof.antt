@@ -1,19 +1,22 @@
 -- `machine::plans::framed` meets its contract. Assumes nothing.
+use Prim.Native.Nat.{_-_}
 use mathlib.Core.Path.{refl}
+use native.Mathlib.Omega.{arith}
+use borrow.Author.Tests.{lt-ltb}
 use Rattle.machine.specs.Plan.{planned}
 use borrow.Author.Needs.{needs}
 use Rattle.machine.proofs.plans.framed.Statement.{statement}
 use Rattle.machine.proofs.plans.framed.Tie as tie
 
-add-t5 : tie.Need-add-t5
-add-t5 c = search needs
-
-sub-t6 : tie.Need-sub-t6
-sub-t6 c = search needs
+sub-t4 : tie.Need-sub-t4
+sub-t4 c = search needs
 
 returns : tie.Need-returns
 unfolding planned
-returns c m = refl
+returns c m =
+    let start = c .before in
+    let r = start .args .r in
+    rw (lt-ltb (r .sp - 1) (r .n) (omega (arith, start .pre))) refl
 
 pub framed-spec : {M : Type 1} → statement M
-framed-spec = tie.close (tie.spec add-t5 sub-t6 returns)
+framed-spec = tie.close (tie.spec sub-t4 returns)

@@ -1,22 +1,22 @@
 -- `machine::plans::result` meets its contract. Assumes nothing.
+use Prim.Native.Nat.{_+_, _-_}
 use mathlib.Core.Path.{refl}
+use native.Mathlib.Omega.{arith}
+use borrow.Author.Tests.{lt-ltb}
 use Rattle.machine.specs.Plan.{planned}
 use borrow.Author.Needs.{needs}
 use Rattle.machine.proofs.plans.result.Statement.{statement}
 use Rattle.machine.proofs.plans.result.Tie as tie
 
-sub-at : tie.Need-sub-at
-sub-at c = search needs
-
-add-t7 : tie.Need-add-t7
-add-t7 c = search needs
-
-add-t8 : tie.Need-add-t8
-add-t8 c = search needs
+sub-t5 : tie.Need-sub-t5
+sub-t5 c = search needs
 
 returns : tie.Need-returns
 unfolding planned
-returns c m = refl
+returns c m =
+    let start = c .before in
+    let a = start .args in
+    rw (lt-ltb (a .r .sp - a .popped + 1) (a .r .n) (omega (arith, start .pre))) refl
 
 pub result-spec : {M : Type 1} → statement M
-result-spec = tie.close (tie.spec sub-at add-t7 add-t8 returns)
+result-spec = tie.close (tie.spec sub-t5 returns)

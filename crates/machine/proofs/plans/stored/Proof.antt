@@ -1,19 +1,22 @@
 -- `machine::plans::stored` meets its contract. Assumes nothing.
+use Prim.Native.Nat.{_-_}
 use mathlib.Core.Path.{refl}
+use native.Mathlib.Omega.{arith}
+use borrow.Author.Tests.{lt-ltb}
 use Rattle.machine.specs.Plan.{planned}
 use borrow.Author.Needs.{needs}
 use Rattle.machine.proofs.plans.stored.Statement.{statement}
 use Rattle.machine.proofs.plans.stored.Tie as tie
 
-add-t7 : tie.Need-add-t7
-add-t7 c = search needs
-
-sub-t8 : tie.Need-sub-t8
-sub-t8 c = search needs
+sub-t5 : tie.Need-sub-t5
+sub-t5 c = search needs
 
 returns : tie.Need-returns
 unfolding planned
-returns c m = refl
+returns c m =
+    let start = c .before in
+    let a = start .args in
+    rw (lt-ltb (a .r .sp - a .popped) (a .r .n) (omega (arith, start .pre))) refl
 
 pub stored-spec : {M : Type 1} → statement M
-stored-spec = tie.close (tie.spec add-t7 sub-t8 returns)
+stored-spec = tie.close (tie.spec sub-t5 returns)

@@ -1,19 +1,13 @@
 -- `machine::plans::swapped` meets its contract. Assumes nothing.
 use mathlib.Core.Path.{refl}
+use borrow.Author.Tests.{lt-ltb}
 use Rattle.machine.specs.Plan.{planned}
-use borrow.Author.Needs.{needs}
 use Rattle.machine.proofs.plans.swapped.Statement.{statement}
 use Rattle.machine.proofs.plans.swapped.Tie as tie
 
-add-t5 : tie.Need-add-t5
-add-t5 c = search needs
-
-sub-t6 : tie.Need-sub-t6
-sub-t6 c = search needs
-
 returns : tie.Need-returns
 unfolding planned
-returns c m = refl
+returns c m = let r = c .args .r in rw (lt-ltb (r .sp) (r .n) (c .pre .3)) refl
 
 pub swapped-spec : {M : Type 1} → statement M
-swapped-spec = tie.close (tie.spec add-t5 sub-t6 returns)
+swapped-spec = tie.close (tie.spec returns)

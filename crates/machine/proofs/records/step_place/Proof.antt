@@ -1,9 +1,9 @@
--- `places::step_place` meets its contract, by the law `stepPlace-low`. Assumes nothing.
+-- `machine::records::step_place` meets its contract, by the law `stepPlace-low`. Assumes nothing.
 use native.Mathlib.Omega.{arith}
 use borrow.Author.Needs.{needs}
 use Rattle.rules.proofs.Places.{stepPlace-low}
-use Rattle.places.proofs.step_place.Statement.{statement}
-use Rattle.places.proofs.step_place.Tie as tie
+use Rattle.machine.proofs.records.step_place.Statement.{statement}
+use Rattle.machine.proofs.records.step_place.Tie as tie
 
 mul-marked : tie.Need-mul-marked
 mul-marked c = search needs
@@ -30,7 +30,18 @@ add-result-2 : tie.Need-add-result-2
 add-result-2 c = search needs
 
 returns : tie.Need-returns
-returns c = omega (arith, stepPlace-low (c .args .pc) (c .args .sp) (c .args .fbr) (c .args .count))
+returns c = let p = c .pre in omega (arith, p, stepPlace-low (c .args .pc) (c .args .sp) (c .args .fbr) (c .args .count))
 
 pub step-place-spec : {M : Type 1} → statement M
-step-place-spec = tie.close (tie.spec mul-marked add-marked mul-stack mul-stack-2 add-stack add-result mul-result add-result-2 returns)
+step-place-spec =
+    tie.close
+    (tie.spec
+    mul-marked
+    add-marked
+    mul-stack
+    mul-stack-2
+    add-stack
+    add-result
+    mul-result
+    add-result-2
+    returns)
