@@ -95,12 +95,13 @@ fn on_one(code: usize, n: u32, r: Registers, bits: &[u32], tags: &[u8]) -> Plan
         return TOO_FEW_VALUES;
     }
     let top = cells::top(r, bits, tags);
+    let t = top.bits;
     match code {
-        codes::NOT => families::on_not(r, top),
-        codes::BITNOT => families::on_bit_not(r, top),
+        codes::NOT => families::on_int(word::logic::not(t), r, top),
+        codes::BITNOT => families::on_int(word::bits::bit_not(t), r, top),
         codes::ISNIL => families::on_is_nil(r, top),
-        codes::ISPOS => families::on_is_pos(r, top),
-        codes::ISNEG => families::on_is_neg(r, top),
+        codes::ISPOS => families::on_int(word::tests::is_pos(t), r, top),
+        codes::ISNEG => families::on_int(word::tests::is_neg(t), r, top),
         codes::POPSP => families::on_pop_sp(r, top),
         codes::POPFBR => families::on_pop_fbr(r, top),
         codes::PUSHIND => addresses::on_push_ind(r, bits, tags, top),
@@ -110,7 +111,7 @@ fn on_one(code: usize, n: u32, r: Registers, bits: &[u32], tags: &[u8]) -> Plan
         codes::ITOF => families::on_to_float(r, top),
         codes::FTOI => families::on_to_int(r, top),
         // what is left is DUP
-        _ => families::on_dup(r, top),
+        _ => plans::pushed(r, top),
     }
 }
 
@@ -121,8 +122,8 @@ fn by_code(code: usize, n: u32, r: Registers, bits: &[u32], tags: &[u8]) -> Plan
 {
     match code {
         codes::STOP => plans::halted(r),
-        codes::PUSHIMM => families::on_push(r, cells::int_cell(n)),
-        codes::PUSHIMMF => families::on_push(r, cells::float_cell(n)),
+        codes::PUSHIMM => plans::pushed(r, cells::int_cell(n)),
+        codes::PUSHIMMF => plans::pushed(r, cells::float_cell(n)),
         codes::DUP => on_one(codes::DUP, n, r, bits, tags),
         codes::SWAP => families::on_swap(r),
         codes::SUB => on_two(codes::SUB, r, bits, tags),
@@ -153,9 +154,9 @@ fn by_code(code: usize, n: u32, r: Registers, bits: &[u32], tags: &[u8]) -> Plan
         codes::ISNIL => on_one(codes::ISNIL, n, r, bits, tags),
         codes::ISPOS => on_one(codes::ISPOS, n, r, bits, tags),
         codes::ISNEG => on_one(codes::ISNEG, n, r, bits, tags),
-        codes::PUSHSP => families::on_push(r, cells::memory_cell(r.sp as u32)),
+        codes::PUSHSP => plans::pushed(r, cells::memory_cell(r.sp as u32)),
         codes::POPSP => on_one(codes::POPSP, n, r, bits, tags),
-        codes::PUSHFBR => families::on_push(r, cells::memory_cell(r.fbr as u32)),
+        codes::PUSHFBR => plans::pushed(r, cells::memory_cell(r.fbr as u32)),
         codes::POPFBR => on_one(codes::POPFBR, n, r, bits, tags),
         codes::LINK => plans::linked(r),
         codes::ADDSP => addresses::on_add_sp(r, n),
@@ -163,12 +164,12 @@ fn by_code(code: usize, n: u32, r: Registers, bits: &[u32], tags: &[u8]) -> Plan
         codes::STOREIND => addresses::on_store_ind(r, bits, tags),
         codes::PUSHOFF => addresses::on_push_off(r, bits, tags, n),
         codes::STOREOFF => addresses::on_store_off(r, n),
-        codes::JUMP => families::on_jump(r, n),
+        codes::JUMP => plans::jumped(r, 0, n),
         codes::JUMPC => on_one(codes::JUMPC, n, r, bits, tags),
         codes::JUMPIND => on_one(codes::JUMPIND, n, r, bits, tags),
-        codes::JSR => families::on_jsr(r, n),
+        codes::JSR => plans::called(r, 0, n),
         codes::JSRIND => on_one(codes::JSRIND, n, r, bits, tags),
-        codes::PUSHIMMPA => families::on_push(r, cells::program_cell(n)),
+        codes::PUSHIMMPA => plans::pushed(r, cells::program_cell(n)),
         codes::ITOF => on_one(codes::ITOF, n, r, bits, tags),
         codes::FTOI => on_one(codes::FTOI, n, r, bits, tags),
         // what is left is ADD

@@ -2,13 +2,10 @@
 // known that its values are there; SWAP, which looks at none, asks 3 for itself.
 ghost use mathlib.Core.Path.{_≡_};
 ghost use Prim.Native.Nat.{_-_, _≤_};
-ghost use Rattle.rules.specs.declared.Decision.the-variants.{Does};
-ghost use mathlib.Core.Bool.{not};
 ghost use lib.IntN.{ℤ};
-ghost use Rattle.rules.specs.Words.{word, inWord, bit, holds, bitNot, less};
+ghost use Rattle.rules.specs.Words.{word, inWord};
 ghost use Rattle.rules.specs.Cells.{Cells, cellAt};
-ghost use Rattle.rules.specs.Effects.{result, jumped, called, programAddress};
-ghost use Rattle.rules.specs.Actions.{dup, swap, sums, ints, divides, floats, compareFloats, one, toFloat, toInt, sameValue, agree, equal, isNil, popSp, popFbr, jumpC, jumpInd, jsrInd};
+ghost use Rattle.rules.specs.Actions.{swap, sums, ints, divides, floats, compareFloats, one, toFloat, toInt, sameValue, agree, equal, isNil, popSp, popFbr, jumpC, jumpInd, jsrInd};
 ghost use Rattle.machine.specs.Families.{onPair, onTop, onOperand};
 ghost use Rattle.machine.specs.Small.{Small};
 ghost use Rattle.machine.specs.Stages.{stacked};
@@ -26,13 +23,6 @@ use crate::plans::WRONG_TAG;
 use rules::Cell;
 use rules::Registers;
 use rules::tags;
-
-pub(crate) fn on_dup(r: Registers, top: Cell) -> Plan
-    requires { ⌜ Small r × (1 ≤ r .sp) ⌝ }
-    ensures { λ d. ⌜ Means r d (onTop dup r top) ⌝ }
-{
-    plans::pushed(r, top)
-}
 
 pub(crate) fn on_swap(r: Registers) -> Plan
     requires { ⌜ Small r ⌝ }
@@ -129,7 +119,7 @@ pub(crate) fn on_compare_floats(r: Registers, below: Cell, top: Cell) -> Plan
 }
 
 // One INT, and an INT as the result.
-fn on_int(v: u32, r: Registers, top: Cell) -> Plan
+pub(crate) fn on_int(v: u32, r: Registers, top: Cell) -> Plan
     requires { ⌜ Small r × (1 ≤ r .sp) ⌝ }
     ensures { λ d. ⌜ Means r d (onTop (one (λ t. v)) r top) ⌝ }
 {
@@ -137,34 +127,6 @@ fn on_int(v: u32, r: Registers, top: Cell) -> Plan
         return WRONG_TAG;
     }
     plans::result(r, 1, int_cell(v))
-}
-
-pub(crate) fn on_not(r: Registers, top: Cell) -> Plan
-    requires { ⌜ Small r × (1 ≤ r .sp) ⌝ }
-    ensures { λ d. ⌜ Means r d (onTop (one (λ t. bit (not (holds t)))) r top) ⌝ }
-{
-    on_int(word::logic::not(top.bits), r, top)
-}
-
-pub(crate) fn on_bit_not(r: Registers, top: Cell) -> Plan
-    requires { ⌜ Small r × (1 ≤ r .sp) ⌝ }
-    ensures { λ d. ⌜ Means r d (onTop (one bitNot) r top) ⌝ }
-{
-    on_int(word::bits::bit_not(top.bits), r, top)
-}
-
-pub(crate) fn on_is_pos(r: Registers, top: Cell) -> Plan
-    requires { ⌜ Small r × (1 ≤ r .sp) ⌝ }
-    ensures { λ d. ⌜ Means r d (onTop (one (λ t. bit (less 0 t))) r top) ⌝ }
-{
-    on_int(word::tests::is_pos(top.bits), r, top)
-}
-
-pub(crate) fn on_is_neg(r: Registers, top: Cell) -> Plan
-    requires { ⌜ Small r × (1 ≤ r .sp) ⌝ }
-    ensures { λ d. ⌜ Means r d (onTop (one (λ t. bit (less t 0))) r top) ⌝ }
-{
-    on_int(word::tests::is_neg(top.bits), r, top)
 }
 
 // An INT, and the nearest FLOAT as the result.
@@ -293,25 +255,5 @@ pub(crate) fn on_jsr_ind(r: Registers, top: Cell) -> Plan
 }
 
 // A cell is pushed.
-pub(crate) fn on_push(r: Registers, c: Cell) -> Plan
-    requires { ⌜ Small r ⌝ }
-    ensures { λ d. ⌜ Means r d (Does (result r 0 c)) ⌝ }
-{
-    plans::pushed(r, c)
-}
-
 // PC is set to the target.
-pub(crate) fn on_jump(r: Registers, target: u32) -> Plan
-    requires { ⌜ Small r ⌝ }
-    ensures { λ d. ⌜ Means r d (Does (jumped r 0 (programAddress target))) ⌝ }
-{
-    plans::jumped(r, 0, target)
-}
-
 // PC is set to the target, and the address after the call is pushed.
-pub(crate) fn on_jsr(r: Registers, target: u32) -> Plan
-    requires { ⌜ Small r ⌝ }
-    ensures { λ d. ⌜ Means r d (Does (called r 0 (programAddress target))) ⌝ }
-{
-    plans::called(r, 0, target)
-}

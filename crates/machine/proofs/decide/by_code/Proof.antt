@@ -1,4 +1,5 @@
 -- `machine::decide::by_code` meets its contract. Assumes nothing.
+use Prim.Native.Nat.{zero-le}
 use mathlib.Core.Path.{refl}
 use native.Mathlib.Omega.{arith}
 use Rattle.rules.specs.Cells.{cells}
@@ -14,14 +15,14 @@ halted-requires c κs = c .before .before .before .pre .0
 int-cell-requires : tie.Need-int-cell-requires
 int-cell-requires c κs = tt
 
-on-push-requires : tie.Need-on-push-requires
-on-push-requires c κs = c .before .before .before .before .pre .0
+pushed-requires : tie.Need-pushed-requires
+pushed-requires c κs = c .before .before .before .before .pre .0
 
 float-cell-requires : tie.Need-float-cell-requires
 float-cell-requires c κs = tt
 
-on-push-requires-2 : tie.Need-on-push-requires-2
-on-push-requires-2 c κs = c .before .before .before .before .pre .0
+pushed-requires-2 : tie.Need-pushed-requires-2
+pushed-requires-2 c κs = c .before .before .before .before .pre .0
 
 on-one-requires : tie.Need-on-one-requires
 on-one-requires c κs = (c .before .before .before .pre .0, c .before .before .before .pre .1, refl)
@@ -119,8 +120,8 @@ cast-memory-cell c = omega (arith, c .before .before .before .before .pre .0)
 memory-cell-requires : tie.Need-memory-cell-requires
 memory-cell-requires c κs = tt
 
-on-push-requires-3 : tie.Need-on-push-requires-3
-on-push-requires-3 c κs = c .before .before .before .before .before .pre .0
+pushed-requires-3 : tie.Need-pushed-requires-3
+pushed-requires-3 c κs = c .before .before .before .before .before .pre .0
 
 on-one-requires-7 : tie.Need-on-one-requires-7
 on-one-requires-7 c κs = (c .before .before .before .pre .0, c .before .before .before .pre .1, refl)
@@ -131,8 +132,8 @@ cast-memory-cell-2 c = omega (arith, c .before .before .before .before .pre .0)
 memory-cell-requires-2 : tie.Need-memory-cell-requires-2
 memory-cell-requires-2 c κs = tt
 
-on-push-requires-4 : tie.Need-on-push-requires-4
-on-push-requires-4 c κs = c .before .before .before .before .before .pre .0
+pushed-requires-4 : tie.Need-pushed-requires-4
+pushed-requires-4 c κs = c .before .before .before .before .before .pre .0
 
 on-one-requires-8 : tie.Need-on-one-requires-8
 on-one-requires-8 c κs = (c .before .before .before .pre .0, c .before .before .before .pre .1, refl)
@@ -155,8 +156,8 @@ on-push-off-requires c κs = (c .before .before .before .pre .0, c .before .befo
 on-store-off-requires : tie.Need-on-store-off-requires
 on-store-off-requires c κs = c .before .before .before .pre .0
 
-on-jump-requires : tie.Need-on-jump-requires
-on-jump-requires c κs = c .before .before .before .pre .0
+jumped-requires : tie.Need-jumped-requires
+jumped-requires c κs = (c .before .before .before .pre .0, zero-le)
 
 on-one-requires-10 : tie.Need-on-one-requires-10
 on-one-requires-10 c κs = (c .before .before .before .pre .0, c .before .before .before .pre .1, refl)
@@ -164,8 +165,8 @@ on-one-requires-10 c κs = (c .before .before .before .pre .0, c .before .before
 on-one-requires-11 : tie.Need-on-one-requires-11
 on-one-requires-11 c κs = (c .before .before .before .pre .0, c .before .before .before .pre .1, refl)
 
-on-jsr-requires : tie.Need-on-jsr-requires
-on-jsr-requires c κs = c .before .before .before .pre .0
+called-requires : tie.Need-called-requires
+called-requires c κs = (c .before .before .before .pre .0, zero-le)
 
 on-one-requires-12 : tie.Need-on-one-requires-12
 on-one-requires-12 c κs = (c .before .before .before .pre .0, c .before .before .before .pre .1, refl)
@@ -173,8 +174,8 @@ on-one-requires-12 c κs = (c .before .before .before .pre .0, c .before .before
 program-cell-requires : tie.Need-program-cell-requires
 program-cell-requires c κs = tt
 
-on-push-requires-5 : tie.Need-on-push-requires-5
-on-push-requires-5 c κs = c .before .before .before .before .pre .0
+pushed-requires-5 : tie.Need-pushed-requires-5
+pushed-requires-5 c κs = c .before .before .before .before .pre .0
 
 on-one-requires-13 : tie.Need-on-one-requires-13
 on-one-requires-13 c κs = (c .before .before .before .pre .0, c .before .before .before .pre .1, refl)
@@ -191,11 +192,11 @@ returns c = let a = c .before .before .before .before .args in rw (c .before .ma
 
 returns-2 : tie.Need-returns-2
 unfolding decide actionOf rowOf rows
-returns-2 c = let a = c .before .before .before .before .before .args in rw (c .before .before .match .keys2, c .on-push .ensures (cells (a .bits .now) (a .tags .now)), c .before .int-cell .ensures)
+returns-2 c = let a = c .before .before .before .before .before .args in rw (c .before .before .match .keys2, c .pushed .ensures (cells (a .bits .now) (a .tags .now)), c .before .int-cell .ensures)
 
 returns-3 : tie.Need-returns-3
 unfolding decide actionOf rowOf rows
-returns-3 c = let a = c .before .before .before .before .before .args in rw (c .before .before .match .keys3, c .on-push2 .ensures (cells (a .bits .now) (a .tags .now)), c .before .float-cell .ensures)
+returns-3 c = let a = c .before .before .before .before .before .args in rw (c .before .before .match .keys3, c .pushed2 .ensures (cells (a .bits .now) (a .tags .now)), c .before .float-cell .ensures)
 
 returns-4 : tie.Need-returns-4
 returns-4 c = rw (c .before .match .keys4) (c .on-one .ensures)
@@ -290,14 +291,14 @@ returns-33 c = rw (c .before .match .keys33) (c .on-one6 .ensures)
 
 returns-34 : tie.Need-returns-34
 unfolding decide actionOf rowOf rows
-returns-34 c = let a = c .before .before .before .before .before .before .args in rw (c .before .before .before .match .keys34, c .on-push3 .ensures (cells (a .bits .now) (a .tags .now)), c .before .memory-cell .ensures)
+returns-34 c = let a = c .before .before .before .before .before .before .args in rw (c .before .before .before .match .keys34, c .pushed3 .ensures (cells (a .bits .now) (a .tags .now)), c .before .memory-cell .ensures)
 
 returns-35 : tie.Need-returns-35
 returns-35 c = rw (c .before .match .keys35) (c .on-one7 .ensures)
 
 returns-36 : tie.Need-returns-36
 unfolding decide actionOf rowOf rows
-returns-36 c = let a = c .before .before .before .before .before .before .args in rw (c .before .before .before .match .keys36, c .on-push4 .ensures (cells (a .bits .now) (a .tags .now)), c .before .memory-cell2 .ensures)
+returns-36 c = let a = c .before .before .before .before .before .before .args in rw (c .before .before .before .match .keys36, c .pushed4 .ensures (cells (a .bits .now) (a .tags .now)), c .before .memory-cell2 .ensures)
 
 returns-37 : tie.Need-returns-37
 returns-37 c = rw (c .before .match .keys37) (c .on-one8 .ensures)
@@ -327,7 +328,7 @@ returns-43 c = let a = c .before .before .before .before .args in rw (c .before 
 
 returns-44 : tie.Need-returns-44
 unfolding decide actionOf rowOf rows
-returns-44 c = let a = c .before .before .before .before .args in rw (c .before .match .keys44, c .on-jump .ensures (cells (a .bits .now) (a .tags .now)))
+returns-44 c = let a = c .before .before .before .before .args in rw (c .before .match .keys44, c .jumped .ensures (cells (a .bits .now) (a .tags .now)))
 
 returns-45 : tie.Need-returns-45
 returns-45 c = rw (c .before .match .keys45) (c .on-one10 .ensures)
@@ -337,14 +338,14 @@ returns-46 c = rw (c .before .match .keys46) (c .on-one11 .ensures)
 
 returns-47 : tie.Need-returns-47
 unfolding decide actionOf rowOf rows
-returns-47 c = let a = c .before .before .before .before .args in rw (c .before .match .keys47, c .on-jsr .ensures (cells (a .bits .now) (a .tags .now)))
+returns-47 c = let a = c .before .before .before .before .args in rw (c .before .match .keys47, c .called .ensures (cells (a .bits .now) (a .tags .now)))
 
 returns-48 : tie.Need-returns-48
 returns-48 c = rw (c .before .match .keys48) (c .on-one12 .ensures)
 
 returns-49 : tie.Need-returns-49
 unfolding decide actionOf rowOf rows
-returns-49 c = let a = c .before .before .before .before .before .args in rw (c .before .before .match .keys49, c .on-push5 .ensures (cells (a .bits .now) (a .tags .now)), c .before .program-cell .ensures)
+returns-49 c = let a = c .before .before .before .before .before .args in rw (c .before .before .match .keys49, c .pushed5 .ensures (cells (a .bits .now) (a .tags .now)), c .before .program-cell .ensures)
 
 returns-50 : tie.Need-returns-50
 returns-50 c = rw (c .before .match .keys50) (c .on-one13 .ensures)
@@ -361,9 +362,9 @@ by-code-spec =
     (tie.spec
     halted-requires
     int-cell-requires
-    on-push-requires
+    pushed-requires
     float-cell-requires
-    on-push-requires-2
+    pushed-requires-2
     on-one-requires
     on-swap-requires
     on-two-requires
@@ -396,11 +397,11 @@ by-code-spec =
     on-one-requires-6
     cast-memory-cell
     memory-cell-requires
-    on-push-requires-3
+    pushed-requires-3
     on-one-requires-7
     cast-memory-cell-2
     memory-cell-requires-2
-    on-push-requires-4
+    pushed-requires-4
     on-one-requires-8
     linked-requires
     on-add-sp-requires
@@ -408,13 +409,13 @@ by-code-spec =
     on-store-ind-requires
     on-push-off-requires
     on-store-off-requires
-    on-jump-requires
+    jumped-requires
     on-one-requires-10
     on-one-requires-11
-    on-jsr-requires
+    called-requires
     on-one-requires-12
     program-cell-requires
-    on-push-requires-5
+    pushed-requires-5
     on-one-requires-13
     on-one-requires-14
     on-two-requires-24

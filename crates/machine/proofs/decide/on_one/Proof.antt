@@ -1,12 +1,14 @@
 -- `machine::decide::on_one` meets its contract. Assumes nothing.
 use Prim.Native.Nat.{_-_}
 use mathlib.Core.Path.{sym, ap}
+use borrow.Author.Tests.{le-leb}
 use Rattle.rules.specs.Cells.{cells, cellAt}
 use Rattle.rules.specs.Instructions.{rows, rowOf, actionOf}
 use Rattle.rules.specs.Decide.{decide}
 use Rattle.machine.specs.Stages.{stacked}
 use Rattle.machine.specs.Plan.{planned}
 use Rattle.machine.proofs.Values.{left-single, single-few}
+use borrow.Author.Needs.{needs}
 use Rattle.machine.proofs.decide.on_one.Statement.{statement}
 use Rattle.machine.proofs.decide.on_one.Tie as tie
 
@@ -22,20 +24,32 @@ returns c =
 top-requires : tie.Need-top-requires
 top-requires c κs = c .before .before .before .before .pre .1
 
-on-not-requires : tie.Need-on-not-requires
-on-not-requires c κs = (c .before .before .before .before .before .before .pre .0, c .before .before .if1 .left)
+not-requires : tie.Need-not-requires
+not-requires c κs = search needs
 
-on-bit-not-requires : tie.Need-on-bit-not-requires
-on-bit-not-requires c κs = (c .before .before .before .before .before .before .pre .0, c .before .before .if1 .left)
+on-int-requires : tie.Need-on-int-requires
+on-int-requires c κs = (c .before .before .before .before .before .before .before .pre .0, c .before .before .before .if1 .left)
+
+bit-not-requires : tie.Need-bit-not-requires
+bit-not-requires c κs = search needs
+
+on-int-requires-2 : tie.Need-on-int-requires-2
+on-int-requires-2 c κs = (c .before .before .before .before .before .before .before .pre .0, c .before .before .before .if1 .left)
 
 on-is-nil-requires : tie.Need-on-is-nil-requires
 on-is-nil-requires c κs = (c .before .before .before .before .before .before .pre .0, c .before .before .if1 .left)
 
-on-is-pos-requires : tie.Need-on-is-pos-requires
-on-is-pos-requires c κs = (c .before .before .before .before .before .before .pre .0, c .before .before .if1 .left)
+is-pos-requires : tie.Need-is-pos-requires
+is-pos-requires c κs = search needs
 
-on-is-neg-requires : tie.Need-on-is-neg-requires
-on-is-neg-requires c κs = (c .before .before .before .before .before .before .pre .0, c .before .before .if1 .left)
+on-int-requires-3 : tie.Need-on-int-requires-3
+on-int-requires-3 c κs = (c .before .before .before .before .before .before .before .pre .0, c .before .before .before .if1 .left)
+
+is-neg-requires : tie.Need-is-neg-requires
+is-neg-requires c κs = search needs
+
+on-int-requires-4 : tie.Need-on-int-requires-4
+on-int-requires-4 c κs = (c .before .before .before .before .before .before .before .pre .0, c .before .before .before .if1 .left)
 
 on-pop-sp-requires : tie.Need-on-pop-sp-requires
 on-pop-sp-requires c κs = (c .before .before .before .before .before .before .pre .0, c .before .before .if1 .left)
@@ -61,16 +75,16 @@ on-to-float-requires c κs = (c .before .before .before .before .before .before 
 on-to-int-requires : tie.Need-on-to-int-requires
 on-to-int-requires c κs = (c .before .before .before .before .before .before .pre .0, c .before .before .if1 .left)
 
-on-dup-requires : tie.Need-on-dup-requires
-on-dup-requires c κs = (c .before .before .before .before .before .before .pre .0, c .before .before .if1 .left)
+pushed-requires : tie.Need-pushed-requires
+pushed-requires c κs = c .before .before .before .before .before .before .pre .0
 
 returns-2 : tie.Need-returns-2
 unfolding decide actionOf rowOf rows
-returns-2 c = let a = c .before .before .before .before .before .before .before .args in rw (c .before .match .keys1, c .on-not .ensures (cells (a .bits .now) (a .tags .now)), c .before .before .top .ensures)
+returns-2 c = let a = c .before .before .before .before .before .before .before .before .args in rw (c .before .before .match .keys1, c .on-int .ensures (cells (a .bits .now) (a .tags .now)), c .before .not .ensures, c .before .before .before .top .ensures)
 
 returns-3 : tie.Need-returns-3
 unfolding decide actionOf rowOf rows
-returns-3 c = let a = c .before .before .before .before .before .before .before .args in rw (c .before .match .keys2, c .on-bit-not .ensures (cells (a .bits .now) (a .tags .now)), c .before .before .top .ensures)
+returns-3 c = let a = c .before .before .before .before .before .before .before .before .args in rw (c .before .before .match .keys2, c .on-int2 .ensures (cells (a .bits .now) (a .tags .now)), c .before .bit-not .ensures, c .before .before .before .top .ensures)
 
 returns-4 : tie.Need-returns-4
 unfolding decide actionOf rowOf rows
@@ -78,11 +92,11 @@ returns-4 c = let a = c .before .before .before .before .before .before .before 
 
 returns-5 : tie.Need-returns-5
 unfolding decide actionOf rowOf rows
-returns-5 c = let a = c .before .before .before .before .before .before .before .args in rw (c .before .match .keys4, c .on-is-pos .ensures (cells (a .bits .now) (a .tags .now)), c .before .before .top .ensures)
+returns-5 c = let a = c .before .before .before .before .before .before .before .before .args in rw (c .before .before .match .keys4, c .on-int3 .ensures (cells (a .bits .now) (a .tags .now)), c .before .is-pos .ensures, c .before .before .before .top .ensures)
 
 returns-6 : tie.Need-returns-6
 unfolding decide actionOf rowOf rows
-returns-6 c = let a = c .before .before .before .before .before .before .before .args in rw (c .before .match .keys5, c .on-is-neg .ensures (cells (a .bits .now) (a .tags .now)), c .before .before .top .ensures)
+returns-6 c = let a = c .before .before .before .before .before .before .before .before .args in rw (c .before .before .match .keys5, c .on-int4 .ensures (cells (a .bits .now) (a .tags .now)), c .before .is-neg .ensures, c .before .before .before .top .ensures)
 
 returns-7 : tie.Need-returns-7
 unfolding decide actionOf rowOf rows
@@ -121,7 +135,7 @@ unfolding decide actionOf rowOf rows
 returns-15 c =
     let start = c .before .before .before .before .before .before .before in
     let a = start .args in
-    rw (left-single _ (start .pre .2) (c .before .match .rest), c .on-dup .ensures (cells (a .bits .now) (a .tags .now)), c .before .before .top .ensures)
+    rw (left-single _ (start .pre .2) (c .before .match .rest), c .pushed .ensures (cells (a .bits .now) (a .tags .now)), le-leb _ _ (c .before .before .before .if1 .left), c .before .before .top .ensures)
 
 pub on-one-spec : {M : Type 1} → statement M
 on-one-spec =
@@ -129,11 +143,15 @@ on-one-spec =
     (tie.spec
     returns
     top-requires
-    on-not-requires
-    on-bit-not-requires
+    not-requires
+    on-int-requires
+    bit-not-requires
+    on-int-requires-2
     on-is-nil-requires
-    on-is-pos-requires
-    on-is-neg-requires
+    is-pos-requires
+    on-int-requires-3
+    is-neg-requires
+    on-int-requires-4
     on-pop-sp-requires
     on-pop-fbr-requires
     on-push-ind-requires
@@ -142,7 +160,7 @@ on-one-spec =
     on-jsr-ind-requires
     on-to-float-requires
     on-to-int-requires
-    on-dup-requires
+    pushed-requires
     returns-2
     returns-3
     returns-4
