@@ -1,3 +1,4 @@
 -- Laws of the tables in the code, for the proofs of its functions.
 pub mod OperandCodes
+pub mod NameWords
 pub mod NameTable

@@ -1,179 +1,148 @@
-// The names of the instructions.
+// The names of the instructions, each as one number, its word: the letters in base 32, the first lowest, A = 1 to Z = 26.
 use rules::codes;
 ghost use mathlib.Core.Path.{_≡_};
 ghost use lib.ListN.{length, getD};
-ghost use Rattle.rules.specs.Lists.{same};
 ghost use Rattle.rules.specs.Instructions.{nameOf};
 ghost use Rattle.rules.specs.Assemble.{codeNamed};
+ghost use Rattle.program.specs.NameWords.{capital, wordOf, textWord};
 
 // The length of the longest name.
 const NAME_SIZE: usize = 9;
 
-// The names by code, each with zeros after it.
-const NAMES: [u8; codes::COUNT * NAME_SIZE] = *b"\
-    STOP\0\0\0\0\0\
-    PUSHIMM\0\0\
-    PUSHIMMF\0\
-    DUP\0\0\0\0\0\0\
-    SWAP\0\0\0\0\0\
-    ADD\0\0\0\0\0\0\
-    SUB\0\0\0\0\0\0\
-    TIMES\0\0\0\0\
-    DIV\0\0\0\0\0\0\
-    MOD\0\0\0\0\0\0\
-    ADDF\0\0\0\0\0\
-    SUBF\0\0\0\0\0\
-    TIMESF\0\0\0\
-    DIVF\0\0\0\0\0\
-    AND\0\0\0\0\0\0\
-    OR\0\0\0\0\0\0\0\
-    NAND\0\0\0\0\0\
-    NOR\0\0\0\0\0\0\
-    XOR\0\0\0\0\0\0\
-    NOT\0\0\0\0\0\0\
-    BITAND\0\0\0\
-    BITOR\0\0\0\0\
-    BITNAND\0\0\
-    BITNOR\0\0\0\
-    BITXOR\0\0\0\
-    BITNOT\0\0\0\
-    CMP\0\0\0\0\0\0\
-    CMPF\0\0\0\0\0\
-    GREATER\0\0\
-    LESS\0\0\0\0\0\
-    EQUAL\0\0\0\0\
-    ISNIL\0\0\0\0\
-    ISPOS\0\0\0\0\
-    ISNEG\0\0\0\0\
-    PUSHSP\0\0\0\
-    POPSP\0\0\0\0\
-    PUSHFBR\0\0\
-    POPFBR\0\0\0\
-    LINK\0\0\0\0\0\
-    ADDSP\0\0\0\0\
-    PUSHIND\0\0\
-    STOREIND\0\
-    PUSHOFF\0\0\
-    STOREOFF\0\
-    JUMP\0\0\0\0\0\
-    JUMPC\0\0\0\0\
-    JUMPIND\0\0\
-    JSR\0\0\0\0\0\0\
-    JSRIND\0\0\0\
-    PUSHIMMPA\
-    ITOF\0\0\0\0\0\
-    FTOI\0\0\0\0\0";
+// A letter has five bits of a word: 0 is past the name's end.
+const LETTER_BITS: usize = 5;
 
-// Their lengths.
-const LENGTHS: [u8; codes::COUNT] = [
-    4,
-    7,
-    8,
-    3,
-    4,
-    3,
-    3,
-    5,
-    3,
-    3,
-    4,
-    4,
-    6,
-    4,
-    3,
-    2,
-    4,
-    3,
-    3,
-    3,
-    6,
-    5,
-    7,
-    6,
-    6,
-    6,
-    3,
-    4,
-    7,
-    4,
-    5,
-    5,
-    5,
-    5,
-    6,
-    5,
-    7,
-    6,
-    4,
-    5,
-    7,
-    8,
-    7,
-    8,
-    4,
-    5,
-    7,
-    3,
-    6,
-    9,
-    4,
-    4,
-];
+const LETTER_SPAN: u64 = 32;
+
+// The byte before A.
+const BEFORE_A: u8 = b'A' - 1;
+
+// The word of a code's name: 0 past the last code.
+fn name_word(code: usize) -> u64
+    ensures { λ r. ⌜ r ≡ wordOf (nameOf code) ⌝ }
+{
+    match code {
+        codes::STOP => 0x83e93,
+        codes::PUSHIMM => 0x35a944eb0,
+        codes::PUSHIMMF => 0x335a944eb0,
+        codes::DUP => 0x42a4,
+        codes::SWAP => 0x806f3,
+        codes::ADD => 0x1081,
+        codes::SUB => 0xab3,
+        codes::TIMES => 0x132b534,
+        codes::DIV => 0x5924,
+        codes::MOD => 0x11ed,
+        codes::ADDF => 0x31081,
+        codes::SUBF => 0x30ab3,
+        codes::TIMESF => 0xd32b534,
+        codes::DIVF => 0x35924,
+        codes::AND => 0x11c1,
+        codes::OR => 0x24f,
+        codes::NAND => 0x2382e,
+        codes::NOR => 0x49ee,
+        codes::XOR => 0x49f8,
+        codes::NOT => 0x51ee,
+        codes::BITAND => 0x8e0d122,
+        codes::BITOR => 0x127d122,
+        codes::BITNAND => 0x11c175122,
+        codes::BITNOR => 0x24f75122,
+        codes::BITXOR => 0x24fc5122,
+        codes::BITNOT => 0x28f75122,
+        codes::CMP => 0x41a3,
+        codes::CMPF => 0x341a3,
+        codes::GREATER => 0x48b409647,
+        codes::LESS => 0x9ccac,
+        codes::EQUAL => 0xc0d625,
+        codes::ISNIL => 0xc4ba69,
+        codes::ISPOS => 0x137c269,
+        codes::ISNEG => 0x72ba69,
+        codes::PUSHSP => 0x21344eb0,
+        codes::POPSP => 0x109c1f0,
+        codes::PUSHFBR => 0x484644eb0,
+        codes::POPFBR => 0x242341f0,
+        codes::LINK => 0x5b92c,
+        codes::ADDSP => 0x1099081,
+        codes::PUSHIND => 0x11c944eb0,
+        codes::STOREIND => 0x2392593e93,
+        codes::PUSHOFF => 0x18cf44eb0,
+        codes::STOREOFF => 0x319e593e93,
+        codes::JUMP => 0x836aa,
+        codes::JUMPC => 0x3836aa,
+        codes::JUMPIND => 0x11c9836aa,
+        codes::JSR => 0x4a6a,
+        codes::JSRIND => 0x8e4ca6a,
+        codes::PUSHIMMPA => 0x1835a944eb0,
+        codes::ITOF => 0x33e89,
+        codes::FTOI => 0x4be86,
+        _ => 0,
+    }
+}
 
 // The byte of a name at place i: 0 past its end.
 pub fn name_byte(code: usize, i: usize) -> u8
     ensures { λ r. ⌜ r ≡ getD (nameOf code) i 0 ⌝ }
 {
-    if codes::COUNT <= code {
-        return 0;
-    }
     if NAME_SIZE <= i {
         return 0;
     }
-    NAMES[code * NAME_SIZE + i]
-}
-
-fn wide(x: u8) -> usize
-    ensures { λ r. ⌜ r ≡ x ⌝ }
-{
-    x as usize
+    let letter = (name_word(code) >> (i * LETTER_BITS)) % LETTER_SPAN;
+    if letter == 0 {
+        return 0;
+    }
+    BEFORE_A + letter as u8
 }
 
 // The length of a name: 0 past the last code.
 pub fn name_length(code: usize) -> usize
     ensures { λ r. ⌜ r ≡ length (nameOf code) ⌝ }
 {
-    if codes::COUNT <= code {
-        return 0;
+    let mut rest = name_word(code);
+    let mut n = 0;
+    while rest != 0 {
+        rest /= LETTER_SPAN;
+        n += 1;
     }
-    wide(LENGTHS[code])
+    n
 }
 
-// Whether the text is the name of the code.
-fn is_name(code: usize, t: &[u8]) -> bool
-    ensures { λ r. ⌜ r ≡ same (nameOf code) (now (t .entry)) ⌝ }
+// Whether a byte is one of A to Z.
+fn is_capital(b: u8) -> bool
+    ensures { λ r. ⌜ r ≡ capital b ⌝ }
 {
-    let n = name_length(code);
-    if t.len() != n {
+    if b < b'A' {
         return false;
     }
-    let mut i = 0;
-    while i < n {
-        if t[i] != name_byte(code, i) {
-            return false;
-        }
-        i += 1;
+    b <= b'Z'
+}
+
+// The word of a text: 0, which is no name's, where it is too long or not of capital letters.
+fn text_word(t: &[u8]) -> u64
+    ensures { λ r. ⌜ r ≡ textWord (now (t .entry)) ⌝ }
+{
+    if NAME_SIZE < t.len() {
+        return 0;
     }
-    true
+    let mut word = 0;
+    let mut i = t.len();
+    while 0 < i {
+        i -= 1;
+        let b = t[i];
+        if !is_capital(b) {
+            return 0;
+        }
+        word = word * LETTER_SPAN + (b - BEFORE_A) as u64;
+    }
+    word
 }
 
 // The code that the text names, and past the last where it names none.
 pub fn code_named(t: &[u8]) -> usize
     ensures { λ r. ⌜ r ≡ codeNamed (now (t .entry)) ⌝ }
 {
+    let word = text_word(t);
     let mut code = 0;
     while code < codes::COUNT {
-        if is_name(code, t) {
+        if name_word(code) == word {
             return code;
         }
         code += 1;
