@@ -16,17 +16,17 @@ pub const SIGN: u32 = 0x8000_0000;
 // What 1 counts for in the field of the exponent.
 pub const EXPONENT_WEIGHT: u32 = 0x80_0000;
 
-// The bits of an infinity.
-const INFINITY: u32 = 0x7f80_0000;
+// Twice the bits of an infinity.
+const TWICE_INFINITY: u32 = 0xff00_0000;
 
 // "A NaN result is #7FC00000."
 const NAN: u32 = 0x7fc0_0000;
 
-// Whether the bits are a NaN's: without the sign, above those of an infinity.
+// Whether the bits are a NaN's: without the sign, which doubling drops, above those of an infinity.
 pub fn is_nan(b: u32) -> bool
     ensures { λ r. ⌜ r ≡ isNan (ofBits binary32 b) ⌝ }
 {
-    b % SIGN > INFINITY
+    std::num::wrapping_add_u32(b, b) > TWICE_INFINITY
 }
 
 // Whether the bits are one of the two zeros.
