@@ -1,13 +1,10 @@
 -- `machine::carry::carry` meets its contract, shape by shape. Assumes nothing.
-use mathlib.Core.Path.{refl, sym, subst, _∙_}
+use mathlib.Core.Path.{refl, _∙_}
 use native.Mathlib.Omega.{arith}
 use Rattle.rules.specs.State.{memory}
-use Rattle.rules.specs.declared.Effect.{Effect}
 use Rattle.rules.specs.declared.MachineRefusal.the-variants as refusal
-use Rattle.machine.specs.Fits.{Fits}
-use Rattle.machine.specs.Plan.{jumps, moves, frames, halts, results, stores, calls, links, swaps, fills}
 use Rattle.machine.specs.declared.plans.Shape.the-variants.{Jump, Move, Frame, Halt, Result, Store, Call, Link, Swap, Fill, TooFewValues, WrongTag, NoResult, BadAddress, StackFull}
-use Rattle.machine.proofs.Carries.{planned-as, carried-as, carried-refused}
+use Rattle.machine.proofs.Carries.{fits-as, carried-as, carried-refused}
 use borrow.Author.Needs.{needs}
 use Rattle.machine.proofs.carry.carry.Statement.{statement}
 use Rattle.machine.proofs.carry.carry.Tie as tie
@@ -20,7 +17,7 @@ results-requires c κs =
     let start = c .before .before .before .before .before in
     let a = start .args in
     let m = memory (a .bits .now) (a .tags .now) (a .history .now) in
-    let o = start .pre .1 (results (a .r) (a .d)) (planned-as (a .r) (a .d) Result (c .enum-told .given .1) (m .cells)) in
+    let o = fits-as (a .r) (a .d) Result (c .enum-told .given .1) m refl refl (start .pre .1) in
     (start .pre .0 .0, omega (arith, o .block, o .tagged, o .fields .few))
 
 commit-requires : tie.Need-commit-requires
@@ -28,7 +25,7 @@ commit-requires c κs =
     let start = c .before .before .before .before .before .before .before .before .before in
     let a = start .args in
     let m = memory (a .bits .now) (a .tags .now) (a .history .now) in
-    subst (λ (z : Effect). Fits (a .r) z m) (sym (c .before .before .before .results .ensures)) (start .pre .1 (results (a .r) (a .d)) (planned-as (a .r) (a .d) Result (c .before .before .before .before .enum-told .given .1) (m .cells)))
+    fits-as (a .r) (a .d) Result (c .before .before .before .before .enum-told .given .1) m (c .before .before .before .results .ensures) refl (start .pre .1)
 
 enum-told-2 : tie.Need-enum-told-2
 enum-told-2 c = search needs
@@ -41,7 +38,7 @@ commit-requires-2 c κs =
     let start = c .before .before .before .before .before .before .before .before .before in
     let a = start .args in
     let m = memory (a .bits .now) (a .tags .now) (a .history .now) in
-    subst (λ (z : Effect). Fits (a .r) z m) (sym (c .before .before .before .jumps .ensures)) (start .pre .1 (jumps (a .r) (a .d)) (planned-as (a .r) (a .d) Jump (c .before .before .before .before .enum-told2 .given .1) (m .cells)))
+    fits-as (a .r) (a .d) Jump (c .before .before .before .before .enum-told2 .given .1) m (c .before .before .before .jumps .ensures) refl (start .pre .1)
 
 enum-told-3 : tie.Need-enum-told-3
 enum-told-3 c = search needs
@@ -54,7 +51,7 @@ commit-requires-3 c κs =
     let start = c .before .before .before .before .before .before .before .before .before .before .before in
     let a = start .args in
     let m = memory (a .bits .now) (a .tags .now) (a .history .now) in
-    subst (λ (z : Effect). Fits (a .r) z m) (sym (c .before .before .before .stores .ensures)) (start .pre .1 (stores (a .r) (m .cells) (a .d)) (planned-as (a .r) (a .d) Store (c .before .before .before .before .before .before .enum-told3 .given .1) (m .cells)))
+    fits-as (a .r) (a .d) Store (c .before .before .before .before .before .before .enum-told3 .given .1) m (c .before .before .before .stores .ensures) refl (start .pre .1)
 
 enum-told-4 : tie.Need-enum-told-4
 enum-told-4 c = search needs
@@ -64,7 +61,7 @@ calls-requires c κs =
     let start = c .before .before .before .before .before in
     let a = start .args in
     let m = memory (a .bits .now) (a .tags .now) (a .history .now) in
-    let o = start .pre .1 (calls (a .r) (a .d)) (planned-as (a .r) (a .d) Call (c .enum-told4 .given .1) (m .cells)) in
+    let o = fits-as (a .r) (a .d) Call (c .enum-told4 .given .1) m refl refl (start .pre .1) in
     (start .pre .0 .0, omega (arith, o .block, o .tagged, o .fields .few))
 
 commit-requires-4 : tie.Need-commit-requires-4
@@ -72,7 +69,7 @@ commit-requires-4 c κs =
     let start = c .before .before .before .before .before .before .before .before .before in
     let a = start .args in
     let m = memory (a .bits .now) (a .tags .now) (a .history .now) in
-    subst (λ (z : Effect). Fits (a .r) z m) (sym (c .before .before .before .calls .ensures)) (start .pre .1 (calls (a .r) (a .d)) (planned-as (a .r) (a .d) Call (c .before .before .before .before .enum-told4 .given .1) (m .cells)))
+    fits-as (a .r) (a .d) Call (c .before .before .before .before .enum-told4 .given .1) m (c .before .before .before .calls .ensures) refl (start .pre .1)
 
 enum-told-5 : tie.Need-enum-told-5
 enum-told-5 c = search needs
@@ -85,7 +82,7 @@ commit-requires-5 c κs =
     let start = c .before .before .before .before .before .before .before .before .before in
     let a = start .args in
     let m = memory (a .bits .now) (a .tags .now) (a .history .now) in
-    subst (λ (z : Effect). Fits (a .r) z m) (sym (c .before .before .before .links .ensures)) (start .pre .1 (links (a .r)) (planned-as (a .r) (a .d) Link (c .before .before .before .before .enum-told5 .given .1) (m .cells)))
+    fits-as (a .r) (a .d) Link (c .before .before .before .before .enum-told5 .given .1) m (c .before .before .before .links .ensures) refl (start .pre .1)
 
 enum-told-6 : tie.Need-enum-told-6
 enum-told-6 c = search needs
@@ -98,7 +95,7 @@ commit-requires-6 c κs =
     let start = c .before .before .before .before .before .before .before .before .before in
     let a = start .args in
     let m = memory (a .bits .now) (a .tags .now) (a .history .now) in
-    subst (λ (z : Effect). Fits (a .r) z m) (sym (c .before .before .before .moves .ensures)) (start .pre .1 (moves (a .r) (a .d)) (planned-as (a .r) (a .d) Move (c .before .before .before .before .enum-told6 .given .1) (m .cells)))
+    fits-as (a .r) (a .d) Move (c .before .before .before .before .enum-told6 .given .1) m (c .before .before .before .moves .ensures) refl (start .pre .1)
 
 enum-told-7 : tie.Need-enum-told-7
 enum-told-7 c = search needs
@@ -111,7 +108,7 @@ commit-requires-7 c κs =
     let start = c .before .before .before .before .before .before .before .before .before in
     let a = start .args in
     let m = memory (a .bits .now) (a .tags .now) (a .history .now) in
-    subst (λ (z : Effect). Fits (a .r) z m) (sym (c .before .before .before .frames .ensures)) (start .pre .1 (frames (a .r) (a .d)) (planned-as (a .r) (a .d) Frame (c .before .before .before .before .enum-told7 .given .1) (m .cells)))
+    fits-as (a .r) (a .d) Frame (c .before .before .before .before .enum-told7 .given .1) m (c .before .before .before .frames .ensures) refl (start .pre .1)
 
 enum-told-8 : tie.Need-enum-told-8
 enum-told-8 c = search needs
@@ -124,7 +121,7 @@ commit-requires-8 c κs =
     let start = c .before .before .before .before .before .before .before .before .before in
     let a = start .args in
     let m = memory (a .bits .now) (a .tags .now) (a .history .now) in
-    subst (λ (z : Effect). Fits (a .r) z m) (sym (c .before .before .before .halts .ensures)) (start .pre .1 (halts (a .r)) (planned-as (a .r) (a .d) Halt (c .before .before .before .before .enum-told8 .given .1) (m .cells)))
+    fits-as (a .r) (a .d) Halt (c .before .before .before .before .enum-told8 .given .1) m (c .before .before .before .halts .ensures) refl (start .pre .1)
 
 enum-told-9 : tie.Need-enum-told-9
 enum-told-9 c = search needs
@@ -137,7 +134,7 @@ commit-requires-9 c κs =
     let start = c .before .before .before .before .before .before .before .before .before .before .before in
     let a = start .args in
     let m = memory (a .bits .now) (a .tags .now) (a .history .now) in
-    subst (λ (z : Effect). Fits (a .r) z m) (sym (c .before .before .before .swaps .ensures)) (start .pre .1 (swaps (a .r) (m .cells)) (planned-as (a .r) (a .d) Swap (c .before .before .before .before .before .before .enum-told9 .given .1) (m .cells)))
+    fits-as (a .r) (a .d) Swap (c .before .before .before .before .before .before .enum-told9 .given .1) m (c .before .before .before .swaps .ensures) refl (start .pre .1)
 
 enum-told-10 : tie.Need-enum-told-10
 enum-told-10 c = search needs
@@ -150,7 +147,7 @@ commit-requires-10 c κs =
     let start = c .before .before .before .before .before .before .before .before .before in
     let a = start .args in
     let m = memory (a .bits .now) (a .tags .now) (a .history .now) in
-    subst (λ (z : Effect). Fits (a .r) z m) (sym (c .before .before .before .fills .ensures)) (start .pre .1 (fills (a .r) (a .d)) (planned-as (a .r) (a .d) Fill (c .before .before .before .before .enum-told10 .given .1) (m .cells)))
+    fits-as (a .r) (a .d) Fill (c .before .before .before .before .enum-told10 .given .1) m (c .before .before .before .fills .ensures) refl (start .pre .1)
 
 enum-told-11 : tie.Need-enum-told-11
 enum-told-11 c = search needs
@@ -168,154 +165,164 @@ enum-told-15 : tie.Need-enum-told-15
 enum-told-15 c = search needs
 
 same-length : tie.Need-same-length
-same-length c = search needs
+same-length c = c .before .before .before .before .before .before .commit .kept .1 .1 .0
 
 same-length-2 : tie.Need-same-length-2
-same-length-2 c = search needs
+same-length-2 c = c .before .before .before .before .before .before .commit .kept .1 .1 .1 .0
 
 same-length-3 : tie.Need-same-length-3
-same-length-3 c = search needs
+same-length-3 c = c .before .before .before .before .before .before .commit .kept .1 .1 .1 .1 .0
 
 returns : tie.Need-returns
 returns c =
     let a = c .before .before .before .before .before .before .before .before .before .before .before .before .before .before .before .before .args in
     let m = memory (a .bits .now) (a .tags .now) (a .history .now) in
-    c .before .before .before .before .before .before .commit .ensures ∙ carried-as (a .r) (a .d) Result (c .before .before .before .before .before .before .before .before .before .before .before .enum-told .given .1) m _ (results (a .r) (a .d)) (c .before .before .before .before .before .before .before .before .before .before .results .ensures) refl
+    let at = c .before .before .before .before .before .before .before .before .before .before .before in
+    c .before .before .before .before .before .before .commit .ensures ∙ carried-as (a .r) (a .d) Result (at .enum-told .given .1) m (c .before .before .before .before .before .before .before .before .before .before .results .ensures) refl
 
 same-length-4 : tie.Need-same-length-4
-same-length-4 c = search needs
+same-length-4 c = c .before .before .before .before .before .before .commit2 .kept .1 .1 .0
 
 same-length-5 : tie.Need-same-length-5
-same-length-5 c = search needs
+same-length-5 c = c .before .before .before .before .before .before .commit2 .kept .1 .1 .1 .0
 
 same-length-6 : tie.Need-same-length-6
-same-length-6 c = search needs
+same-length-6 c = c .before .before .before .before .before .before .commit2 .kept .1 .1 .1 .1 .0
 
 returns-2 : tie.Need-returns-2
 returns-2 c =
     let a = c .before .before .before .before .before .before .before .before .before .before .before .before .before .before .before .before .args in
     let m = memory (a .bits .now) (a .tags .now) (a .history .now) in
-    c .before .before .before .before .before .before .commit2 .ensures ∙ carried-as (a .r) (a .d) Jump (c .before .before .before .before .before .before .before .before .before .before .before .enum-told2 .given .1) m _ (jumps (a .r) (a .d)) (c .before .before .before .before .before .before .before .before .before .before .jumps .ensures) refl
+    let at = c .before .before .before .before .before .before .before .before .before .before .before in
+    c .before .before .before .before .before .before .commit2 .ensures ∙ carried-as (a .r) (a .d) Jump (at .enum-told2 .given .1) m (c .before .before .before .before .before .before .before .before .before .before .jumps .ensures) refl
 
 same-length-7 : tie.Need-same-length-7
-same-length-7 c = search needs
+same-length-7 c = c .before .before .before .before .before .before .commit3 .kept .1 .1 .0
 
 same-length-8 : tie.Need-same-length-8
-same-length-8 c = search needs
+same-length-8 c = c .before .before .before .before .before .before .commit3 .kept .1 .1 .1 .0
 
 same-length-9 : tie.Need-same-length-9
-same-length-9 c = search needs
+same-length-9 c = c .before .before .before .before .before .before .commit3 .kept .1 .1 .1 .1 .0
 
 returns-3 : tie.Need-returns-3
 returns-3 c =
     let a = c .before .before .before .before .before .before .before .before .before .before .before .before .before .before .before .before .before .before .args in
     let m = memory (a .bits .now) (a .tags .now) (a .history .now) in
-    c .before .before .before .before .before .before .commit3 .ensures ∙ carried-as (a .r) (a .d) Store (c .before .before .before .before .before .before .before .before .before .before .before .before .before .enum-told3 .given .1) m _ (stores (a .r) (m .cells) (a .d)) (c .before .before .before .before .before .before .before .before .before .before .stores .ensures) refl
+    let at = c .before .before .before .before .before .before .before .before .before .before .before .before .before in
+    c .before .before .before .before .before .before .commit3 .ensures ∙ carried-as (a .r) (a .d) Store (at .enum-told3 .given .1) m (c .before .before .before .before .before .before .before .before .before .before .stores .ensures) refl
 
 same-length-10 : tie.Need-same-length-10
-same-length-10 c = search needs
+same-length-10 c = c .before .before .before .before .before .before .commit4 .kept .1 .1 .0
 
 same-length-11 : tie.Need-same-length-11
-same-length-11 c = search needs
+same-length-11 c = c .before .before .before .before .before .before .commit4 .kept .1 .1 .1 .0
 
 same-length-12 : tie.Need-same-length-12
-same-length-12 c = search needs
+same-length-12 c = c .before .before .before .before .before .before .commit4 .kept .1 .1 .1 .1 .0
 
 returns-4 : tie.Need-returns-4
 returns-4 c =
     let a = c .before .before .before .before .before .before .before .before .before .before .before .before .before .before .before .before .args in
     let m = memory (a .bits .now) (a .tags .now) (a .history .now) in
-    c .before .before .before .before .before .before .commit4 .ensures ∙ carried-as (a .r) (a .d) Call (c .before .before .before .before .before .before .before .before .before .before .before .enum-told4 .given .1) m _ (calls (a .r) (a .d)) (c .before .before .before .before .before .before .before .before .before .before .calls .ensures) refl
+    let at = c .before .before .before .before .before .before .before .before .before .before .before in
+    c .before .before .before .before .before .before .commit4 .ensures ∙ carried-as (a .r) (a .d) Call (at .enum-told4 .given .1) m (c .before .before .before .before .before .before .before .before .before .before .calls .ensures) refl
 
 same-length-13 : tie.Need-same-length-13
-same-length-13 c = search needs
+same-length-13 c = c .before .before .before .before .before .before .commit5 .kept .1 .1 .0
 
 same-length-14 : tie.Need-same-length-14
-same-length-14 c = search needs
+same-length-14 c = c .before .before .before .before .before .before .commit5 .kept .1 .1 .1 .0
 
 same-length-15 : tie.Need-same-length-15
-same-length-15 c = search needs
+same-length-15 c = c .before .before .before .before .before .before .commit5 .kept .1 .1 .1 .1 .0
 
 returns-5 : tie.Need-returns-5
 returns-5 c =
     let a = c .before .before .before .before .before .before .before .before .before .before .before .before .before .before .before .before .args in
     let m = memory (a .bits .now) (a .tags .now) (a .history .now) in
-    c .before .before .before .before .before .before .commit5 .ensures ∙ carried-as (a .r) (a .d) Link (c .before .before .before .before .before .before .before .before .before .before .before .enum-told5 .given .1) m _ (links (a .r)) (c .before .before .before .before .before .before .before .before .before .before .links .ensures) refl
+    let at = c .before .before .before .before .before .before .before .before .before .before .before in
+    c .before .before .before .before .before .before .commit5 .ensures ∙ carried-as (a .r) (a .d) Link (at .enum-told5 .given .1) m (c .before .before .before .before .before .before .before .before .before .before .links .ensures) refl
 
 same-length-16 : tie.Need-same-length-16
-same-length-16 c = search needs
+same-length-16 c = c .before .before .before .before .before .before .commit6 .kept .1 .1 .0
 
 same-length-17 : tie.Need-same-length-17
-same-length-17 c = search needs
+same-length-17 c = c .before .before .before .before .before .before .commit6 .kept .1 .1 .1 .0
 
 same-length-18 : tie.Need-same-length-18
-same-length-18 c = search needs
+same-length-18 c = c .before .before .before .before .before .before .commit6 .kept .1 .1 .1 .1 .0
 
 returns-6 : tie.Need-returns-6
 returns-6 c =
     let a = c .before .before .before .before .before .before .before .before .before .before .before .before .before .before .before .before .args in
     let m = memory (a .bits .now) (a .tags .now) (a .history .now) in
-    c .before .before .before .before .before .before .commit6 .ensures ∙ carried-as (a .r) (a .d) Move (c .before .before .before .before .before .before .before .before .before .before .before .enum-told6 .given .1) m _ (moves (a .r) (a .d)) (c .before .before .before .before .before .before .before .before .before .before .moves .ensures) refl
+    let at = c .before .before .before .before .before .before .before .before .before .before .before in
+    c .before .before .before .before .before .before .commit6 .ensures ∙ carried-as (a .r) (a .d) Move (at .enum-told6 .given .1) m (c .before .before .before .before .before .before .before .before .before .before .moves .ensures) refl
 
 same-length-19 : tie.Need-same-length-19
-same-length-19 c = search needs
+same-length-19 c = c .before .before .before .before .before .before .commit7 .kept .1 .1 .0
 
 same-length-20 : tie.Need-same-length-20
-same-length-20 c = search needs
+same-length-20 c = c .before .before .before .before .before .before .commit7 .kept .1 .1 .1 .0
 
 same-length-21 : tie.Need-same-length-21
-same-length-21 c = search needs
+same-length-21 c = c .before .before .before .before .before .before .commit7 .kept .1 .1 .1 .1 .0
 
 returns-7 : tie.Need-returns-7
 returns-7 c =
     let a = c .before .before .before .before .before .before .before .before .before .before .before .before .before .before .before .before .args in
     let m = memory (a .bits .now) (a .tags .now) (a .history .now) in
-    c .before .before .before .before .before .before .commit7 .ensures ∙ carried-as (a .r) (a .d) Frame (c .before .before .before .before .before .before .before .before .before .before .before .enum-told7 .given .1) m _ (frames (a .r) (a .d)) (c .before .before .before .before .before .before .before .before .before .before .frames .ensures) refl
+    let at = c .before .before .before .before .before .before .before .before .before .before .before in
+    c .before .before .before .before .before .before .commit7 .ensures ∙ carried-as (a .r) (a .d) Frame (at .enum-told7 .given .1) m (c .before .before .before .before .before .before .before .before .before .before .frames .ensures) refl
 
 same-length-22 : tie.Need-same-length-22
-same-length-22 c = search needs
+same-length-22 c = c .before .before .before .before .before .before .commit8 .kept .1 .1 .0
 
 same-length-23 : tie.Need-same-length-23
-same-length-23 c = search needs
+same-length-23 c = c .before .before .before .before .before .before .commit8 .kept .1 .1 .1 .0
 
 same-length-24 : tie.Need-same-length-24
-same-length-24 c = search needs
+same-length-24 c = c .before .before .before .before .before .before .commit8 .kept .1 .1 .1 .1 .0
 
 returns-8 : tie.Need-returns-8
 returns-8 c =
     let a = c .before .before .before .before .before .before .before .before .before .before .before .before .before .before .before .before .args in
     let m = memory (a .bits .now) (a .tags .now) (a .history .now) in
-    c .before .before .before .before .before .before .commit8 .ensures ∙ carried-as (a .r) (a .d) Halt (c .before .before .before .before .before .before .before .before .before .before .before .enum-told8 .given .1) m _ (halts (a .r)) (c .before .before .before .before .before .before .before .before .before .before .halts .ensures) refl
+    let at = c .before .before .before .before .before .before .before .before .before .before .before in
+    c .before .before .before .before .before .before .commit8 .ensures ∙ carried-as (a .r) (a .d) Halt (at .enum-told8 .given .1) m (c .before .before .before .before .before .before .before .before .before .before .halts .ensures) refl
 
 same-length-25 : tie.Need-same-length-25
-same-length-25 c = search needs
+same-length-25 c = c .before .before .before .before .before .before .commit9 .kept .1 .1 .0
 
 same-length-26 : tie.Need-same-length-26
-same-length-26 c = search needs
+same-length-26 c = c .before .before .before .before .before .before .commit9 .kept .1 .1 .1 .0
 
 same-length-27 : tie.Need-same-length-27
-same-length-27 c = search needs
+same-length-27 c = c .before .before .before .before .before .before .commit9 .kept .1 .1 .1 .1 .0
 
 returns-9 : tie.Need-returns-9
 returns-9 c =
     let a = c .before .before .before .before .before .before .before .before .before .before .before .before .before .before .before .before .before .before .args in
     let m = memory (a .bits .now) (a .tags .now) (a .history .now) in
-    c .before .before .before .before .before .before .commit9 .ensures ∙ carried-as (a .r) (a .d) Swap (c .before .before .before .before .before .before .before .before .before .before .before .before .before .enum-told9 .given .1) m _ (swaps (a .r) (m .cells)) (c .before .before .before .before .before .before .before .before .before .before .swaps .ensures) refl
+    let at = c .before .before .before .before .before .before .before .before .before .before .before .before .before in
+    c .before .before .before .before .before .before .commit9 .ensures ∙ carried-as (a .r) (a .d) Swap (at .enum-told9 .given .1) m (c .before .before .before .before .before .before .before .before .before .before .swaps .ensures) refl
 
 same-length-28 : tie.Need-same-length-28
-same-length-28 c = search needs
+same-length-28 c = c .before .before .before .before .before .before .commit10 .kept .1 .1 .0
 
 same-length-29 : tie.Need-same-length-29
-same-length-29 c = search needs
+same-length-29 c = c .before .before .before .before .before .before .commit10 .kept .1 .1 .1 .0
 
 same-length-30 : tie.Need-same-length-30
-same-length-30 c = search needs
+same-length-30 c = c .before .before .before .before .before .before .commit10 .kept .1 .1 .1 .1 .0
 
 returns-10 : tie.Need-returns-10
 returns-10 c =
     let a = c .before .before .before .before .before .before .before .before .before .before .before .before .before .before .before .before .args in
     let m = memory (a .bits .now) (a .tags .now) (a .history .now) in
-    c .before .before .before .before .before .before .commit10 .ensures ∙ carried-as (a .r) (a .d) Fill (c .before .before .before .before .before .before .before .before .before .before .before .enum-told10 .given .1) m _ (fills (a .r) (a .d)) (c .before .before .before .before .before .before .before .before .before .before .fills .ensures) refl
+    let at = c .before .before .before .before .before .before .before .before .before .before .before in
+    c .before .before .before .before .before .before .commit10 .ensures ∙ carried-as (a .r) (a .d) Fill (at .enum-told10 .given .1) m (c .before .before .before .before .before .before .before .before .before .before .fills .ensures) refl
 
 returns-11 : tie.Need-returns-11
 returns-11 c =
