@@ -13,7 +13,7 @@ use Rattle.rules.specs.declared.Cell.{Cell}
 use Rattle.rules.specs.declared.Registers.{Registers}
 use Rattle.rules.specs.declared.Decision.the-variants.{Refuses}
 use Rattle.rules.specs.declared.MachineRefusal.the-variants.{TooFewValues}
-use Rattle.rules.proofs.Tests.{by-test, and-left, and-right, below, at-below}
+use Rattle.rules.proofs.Tests.{by-test, and-left, and-right, at-below}
 use Rattle.machine.specs.Values.{singles, pairs, among}
 
 -- ---- what the `_` of a `match` knows of a code: it is none of those that have an arm, beside what A says

@@ -1,4 +1,5 @@
 -- What the inner contracts of `machine` cite.
+pub mod Spans
 pub mod Small
 pub mod Live
 pub mod Values

@@ -54,7 +54,7 @@ fn put(e: Effect, bits: &mut [u32], tags: &mut [u8])
 }
 
 // Adds the step's record: the cell places of the cells that the effect overwrites, by rising address, then the step place.
-fn add_record(e: Effect, r: Registers, bits: &[u32], tags: &[u8], history: &mut [u64])
+fn add_record(r: Registers, e: Effect, bits: &[u32], tags: &[u8], history: &mut [u64])
     requires { ⌜ (length (now tags) ≡ length (now bits)) × ((e .at + e .count ≤ length (now bits)) × (r .used + (e .count + 1) ≤ length (now history))) ⌝ }
     requires { ⌜ Fields r (now tags) ⌝ }
     ensures { λ _. ⌜ now (history .exit) ≡ splice (now (history .entry)) (r .used) (recordOf r (cells (now (bits .entry)) (now (tags .entry))) e) ⌝ }
@@ -103,7 +103,7 @@ fn keep(r: Registers, e: Effect, bits: &[u32], tags: &[u8], history: &mut [u64])
     if r.h - used < needed {
         return Step::Refused(MachineRefusal::HistoryFull);
     }
-    add_record(e, r, bits, tags, history);
+    add_record(r, e, bits, tags, history);
     Step::Next(registers_with(r, e, used + needed, r.kept + 1))
 }
 

@@ -2,6 +2,7 @@
 ghost use mathlib.Core.Path.{_≡_};
 ghost use Prim.Native.Nat.{_-_, _<_};
 ghost use Rattle.rules.specs.Cells.{cells};
+ghost use Rattle.machine.specs.Spans.{cellSpan};
 ghost use Rattle.machine.specs.Small.{Small};
 ghost use Rattle.machine.specs.Live.{Live};
 ghost use Rattle.machine.specs.Plan.{jumps, moves, frames, halts, results, stores, calls, links, swaps, fills};
@@ -80,7 +81,7 @@ pub(crate) fn halts(r: Registers) -> Effect
 
 // The planned cell is the top, at the address.
 pub(crate) fn results(r: Registers, d: Plan) -> Effect
-    requires { ⌜ Small r × (d .at < 1024) ⌝ }
+    requires { ⌜ Small r × (d .at < cellSpan) ⌝ }
     ensures { λ e. ⌜ e ≡ results r d ⌝ }
 {
     Effect {
@@ -117,7 +118,7 @@ pub(crate) fn stores(r: Registers, d: Plan, bits: &[u32], tags: &[u8]) -> Effect
 
 // PC is the planned address, and the address after the call is pushed.
 pub(crate) fn calls(r: Registers, d: Plan) -> Effect
-    requires { ⌜ Small r × (d .at < 1024) ⌝ }
+    requires { ⌜ Small r × (d .at < cellSpan) ⌝ }
     ensures { λ e. ⌜ e ≡ calls r d ⌝ }
 {
     let next = r.pc + 1;

@@ -41,7 +41,7 @@ pub struct Plan {
     pub tag: u8,
 }
 
-// The refusals 3 to 7.
+// The refusals 3 to 7: the last where "new SP would be N or more".
 pub(crate) const TOO_FEW_VALUES: Plan = Plan {
     shape: Shape::TooFewValues,
     sp: 0,
@@ -82,7 +82,7 @@ pub(crate) const STACK_FULL: Plan = Plan {
     tag: tags::INT,
 };
 
-// A cell is pushed.
+// A cell is pushed, where SP stays below N.
 pub(crate) fn pushed(r: Registers, c: Cell) -> Plan
     requires { ⌜ Small r ⌝ }
     ensures { λ d. ⌜ Means r d (Does (result r 0 c)) ⌝ }
@@ -141,7 +141,7 @@ pub(crate) fn stored(r: Registers, popped: usize, a: MemoryAddress) -> Plan
     }
 }
 
-// SP moves from `popped` to an address; the cells between are zeroed where it moves up.
+// SP moves from `popped` to an address below N; the cells between are zeroed where it moves up.
 pub(crate) fn moved(r: Registers, popped: usize, a: MemoryAddress) -> Plan
     requires { ⌜ Small r × (popped ≤ r .sp) ⌝ }
     ensures { λ d. ⌜ Means r d (Does (moved r popped a)) ⌝ }
@@ -181,7 +181,7 @@ pub(crate) fn framed(r: Registers, a: MemoryAddress) -> Plan
     }
 }
 
-// The old FBR is pushed, and FBR is the old SP.
+// The old FBR is pushed, where SP stays below N, and FBR is the old SP.
 pub(crate) fn linked(r: Registers) -> Plan
     requires { ⌜ Small r ⌝ }
     ensures { λ d. ⌜ Means r d (Does (linked r)) ⌝ }
@@ -212,7 +212,7 @@ pub(crate) fn jumped(r: Registers, popped: usize, target: u32) -> Plan
     }
 }
 
-// `popped` values are popped, PC is set, and the address after the call is pushed.
+// `popped` values are popped, PC is set, and the address after the call is pushed, where SP stays below N.
 pub(crate) fn called(r: Registers, popped: usize, target: u32) -> Plan
     requires { ⌜ Small r × (popped ≤ r .sp) ⌝ }
     ensures { λ d. ⌜ Means r d (Does (called r popped (programAddress target))) ⌝ }

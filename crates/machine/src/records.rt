@@ -2,10 +2,11 @@
 ghost use mathlib.Core.Path.{_≡_};
 ghost use Prim.Native.Nat.{_<_};
 ghost use Rattle.rules.specs.Places.{cellPlace, stepPlace};
+ghost use Rattle.machine.specs.Spans.{cellSpan, pcSpan, tagSpan};
 
 // The cell place that keeps a cell's old tag and bits.
 pub(crate) fn cell_place(address: usize, tag: u8, bits: u32) -> u64
-    requires { ⌜ (address < 1024) × (tag < 4) ⌝ }
+    requires { ⌜ (address < cellSpan) × (tag < tagSpan) ⌝ }
     ensures { λ r. ⌜ r ≡ cellPlace address tag bits ⌝ }
 {
     address as u64 * places::ADDRESS_WEIGHT
@@ -15,7 +16,7 @@ pub(crate) fn cell_place(address: usize, tag: u8, bits: u32) -> u64
 
 // The step place that keeps the old PC, SP and FBR, and tells how many cells were written.
 pub(crate) fn step_place(pc: usize, sp: usize, fbr: usize, count: usize) -> u64
-    requires { ⌜ (pc < 2048) × (sp < 1024) × (fbr < 1024) × (count < 1024) ⌝ }
+    requires { ⌜ (pc < pcSpan) × (sp < cellSpan) × (fbr < cellSpan) × (count < cellSpan) ⌝ }
     ensures { λ r. ⌜ r ≡ stepPlace pc sp fbr count ⌝ }
 {
     let marked = places::MARK_WEIGHT + pc as u64 * places::PC_WEIGHT;

@@ -19,7 +19,7 @@ ghost use Rattle.state.specs.Outcomes.{stepped};
 ghost use Rattle.machine.specs.Outcomes.{ran};
 
 // One step of a sound state with HALT 0, neither of which is asked again: 2 to 8 in order, or what the instruction does.
-fn take_turn(
+fn take_step(
     table: &[u64],
     count: usize,
     r: Registers,
@@ -39,7 +39,7 @@ fn take_turn(
     carry::carry(r, d, bits, tags, history)
 }
 
-// The same registers, whose N and H are these: a run's sizes stay what they are at its start, where they need not be kept anew with each step.
+// The same registers. N and H are written down as those of the run's start, which they are, so that the compiler does not carry them from step to step.
 fn of_sizes(n: usize, h: usize, r: Registers) -> Registers
     requires { ⌜ (r .n ≡ n) × (r .h ≡ h) ⌝ }
     ensures { λ a. ⌜ a ≡ r ⌝ }
@@ -67,7 +67,7 @@ fn ended(made: usize, how: Ending, at: Registers) -> Run
     }
 }
 
-// The turns of a run from a sound state, whose soundness is not judged again: each accepted step leaves a sound state.
+// The steps of a run from a sound state, whose soundness is not judged again: each accepted step leaves a sound state.
 pub(crate) fn run_from(
     table: &[u64],
     count: usize,
@@ -88,7 +88,7 @@ pub(crate) fn run_from(
     let mut left = limit;
     let mut at = r;
     while 0 < left {
-        let next = take_turn(table, count, at, bits, tags, history);
+        let next = take_step(table, count, at, bits, tags, history);
         match next {
             Step::Refused(refusal) => return ended(limit - left, Ending::Stopped(refusal), at),
             Step::Next(registers) => {

@@ -35,8 +35,8 @@ loop-holds c =
     let m₀ = memory (a .bits .now) (a .tags .now) (a .history .now) in
     reached-start p (a .limit) (a .r) m₀ (start .pre .0) (c .if1 .left)
 
-take-turn-requires : tie.Need-take-turn-requires Inv-loop μ-loop
-take-turn-requires c κs = let o = c .before .before .before .before .loop .inv in (o .good, o .running)
+take-step-requires : tie.Need-take-step-requires Inv-loop μ-loop
+take-step-requires c κs = let o = c .before .before .before .before .loop .inv in (o .good, o .running)
 
 enum-known-next : tie.Need-enum-known-next Inv-loop μ-loop
 enum-known-next c = search needs
@@ -48,13 +48,13 @@ ended-requires-2 : tie.Need-ended-requires-2 Inv-loop μ-loop
 ended-requires-2 c κs = search needs
 
 same-length : tie.Need-same-length Inv-loop μ-loop
-same-length c = c .before .before .before .before .before .before .before .before .before .before .take-turn .kept .1 .1 .1 .0 ∙ c .before .before .before .before .before .before .before .before .before .before .before .before .before .before .before .loop .inv .bits
+same-length c = c .before .before .before .before .before .before .before .before .before .before .take-step .kept .1 .1 .1 .0 ∙ c .before .before .before .before .before .before .before .before .before .before .before .before .before .before .before .loop .inv .bits
 
 same-length-2 : tie.Need-same-length-2 Inv-loop μ-loop
-same-length-2 c = c .before .before .before .before .before .before .before .before .before .before .take-turn .kept .1 .1 .1 .1 .0 ∙ c .before .before .before .before .before .before .before .before .before .before .before .before .before .before .before .loop .inv .tags
+same-length-2 c = c .before .before .before .before .before .before .before .before .before .before .take-step .kept .1 .1 .1 .1 .0 ∙ c .before .before .before .before .before .before .before .before .before .before .before .before .before .before .before .loop .inv .tags
 
 same-length-3 : tie.Need-same-length-3 Inv-loop μ-loop
-same-length-3 c = c .before .before .before .before .before .before .before .before .before .before .take-turn .kept .1 .1 .1 .1 .1 .0 ∙ c .before .before .before .before .before .before .before .before .before .before .before .before .before .before .before .loop .inv .history
+same-length-3 c = c .before .before .before .before .before .before .before .before .before .before .take-step .kept .1 .1 .1 .1 .1 .0 ∙ c .before .before .before .before .before .before .before .before .before .before .before .before .before .before .before .loop .inv .history
 
 returns-2 : tie.Need-returns-2 Inv-loop μ-loop
 returns-2 c =
@@ -64,10 +64,10 @@ returns-2 c =
     let m₀ = memory (a .bits .now) (a .tags .now) (a .history .now) in
     let l = c .before .before .before .before .before .before .before .before .before .before .before .before .before .before .before .loop in
     let m = memory (l .bits) (l .tags) (l .history) in
-    let turn = c .before .before .before .before .before .before .before .before .before .before .take-turn in
+    let taken = c .before .before .before .before .before .before .before .before .before .before .take-step in
     let next = c .before .before .next .given in
     rw (c .ended2 .ensures)
-    (reached-refused p (a .limit) (a .r) m₀ (l .left) (l .at) m (l .inv) (c .before .before .before .before .before .before .before .before .before .before .before .before .before .before .loop-test .taken) _ _ _ (turn .result) (next .0 .0) (next .1) (turn .ensures), omega arith)
+    (reached-refused p (a .limit) (a .r) m₀ (l .left) (l .at) m (l .inv) (c .before .before .before .before .before .before .before .before .before .before .before .before .before .before .loop-test .taken) _ _ _ (taken .result) (next .0 .0) (next .1) (taken .ensures), omega arith)
 
 enum-known-next-2 : tie.Need-enum-known-next-2 Inv-loop μ-loop
 enum-known-next-2 c = search needs
@@ -82,13 +82,13 @@ ended-requires-3 : tie.Need-ended-requires-3 Inv-loop μ-loop
 ended-requires-3 c κs = search needs
 
 same-length-4 : tie.Need-same-length-4 Inv-loop μ-loop
-same-length-4 c = c .before .before .before .before .before .before .before .before .before .before .before .before .take-turn .kept .1 .1 .1 .0 ∙ c .before .before .before .before .before .before .before .before .before .before .before .before .before .before .before .before .before .loop .inv .bits
+same-length-4 c = c .before .before .before .before .before .before .before .before .before .before .before .before .take-step .kept .1 .1 .1 .0 ∙ c .before .before .before .before .before .before .before .before .before .before .before .before .before .before .before .before .before .loop .inv .bits
 
 same-length-5 : tie.Need-same-length-5 Inv-loop μ-loop
-same-length-5 c = c .before .before .before .before .before .before .before .before .before .before .before .before .take-turn .kept .1 .1 .1 .1 .0 ∙ c .before .before .before .before .before .before .before .before .before .before .before .before .before .before .before .before .before .loop .inv .tags
+same-length-5 c = c .before .before .before .before .before .before .before .before .before .before .before .before .take-step .kept .1 .1 .1 .1 .0 ∙ c .before .before .before .before .before .before .before .before .before .before .before .before .before .before .before .before .before .loop .inv .tags
 
 same-length-6 : tie.Need-same-length-6 Inv-loop μ-loop
-same-length-6 c = c .before .before .before .before .before .before .before .before .before .before .before .before .take-turn .kept .1 .1 .1 .1 .1 .0 ∙ c .before .before .before .before .before .before .before .before .before .before .before .before .before .before .before .before .before .loop .inv .history
+same-length-6 c = c .before .before .before .before .before .before .before .before .before .before .before .before .take-step .kept .1 .1 .1 .1 .1 .0 ∙ c .before .before .before .before .before .before .before .before .before .before .before .before .before .before .before .before .before .loop .inv .history
 
 returns-3 : tie.Need-returns-3 Inv-loop μ-loop
 returns-3 c =
@@ -98,10 +98,10 @@ returns-3 c =
     let m₀ = memory (a .bits .now) (a .tags .now) (a .history .now) in
     let l = c .before .before .before .before .before .before .before .before .before .before .before .before .before .before .before .before .before .loop in
     let m = memory (l .bits) (l .tags) (l .history) in
-    let turn = c .before .before .before .before .before .before .before .before .before .before .before .before .take-turn in
+    let taken = c .before .before .before .before .before .before .before .before .before .before .before .before .take-step in
     let next = c .before .before .before .before .next2 .given in
     rw (c .ended3 .ensures)
-    (next-halted p (a .limit) (a .r) m₀ (l .left) (l .at) m (l .inv) (c .before .before .before .before .before .before .before .before .before .before .before .before .before .before .before .before .loop-test .taken) _ _ _ (turn .result) (next .0 .0) (next .1) (turn .ensures) (c .before .if2 .taken), omega arith)
+    (next-halted p (a .limit) (a .r) m₀ (l .left) (l .at) m (l .inv) (c .before .before .before .before .before .before .before .before .before .before .before .before .before .before .before .before .loop-test .taken) _ _ _ (taken .result) (next .0 .0) (next .1) (taken .ensures) (c .before .if2 .taken), omega arith)
 
 of-sizes-requires : tie.Need-of-sizes-requires Inv-loop μ-loop
 of-sizes-requires c κs =
@@ -111,10 +111,10 @@ of-sizes-requires c κs =
     let m₀ = memory (a .bits .now) (a .tags .now) (a .history .now) in
     let l = c .before .before .before .before .before .before .before .before .before .before .before .before .before .before .before .before .loop in
     let m = memory (l .bits) (l .tags) (l .history) in
-    let turn = c .before .before .before .before .before .before .before .before .before .before .before .take-turn in
+    let taken = c .before .before .before .before .before .before .before .before .before .before .before .take-step in
     let next = c .before .before .before .next2 .given in
-    let kept = turn .kept .1 .1 .1 in
-    next-sizes p (a .limit) (a .r) m₀ (l .left) (l .at) m (l .inv) (c .before .before .before .before .before .before .before .before .before .before .before .before .before .before .before .loop-test .taken) _ _ _ (turn .result) (next .0 .0) (next .1) (turn .ensures) (kept .0) (kept .1 .0) (kept .1 .1 .0) (start .pre .0)
+    let kept = taken .kept .1 .1 .1 in
+    next-sizes p (a .limit) (a .r) m₀ (l .left) (l .at) m (l .inv) (c .before .before .before .before .before .before .before .before .before .before .before .before .before .before .before .loop-test .taken) _ _ _ (taken .result) (next .0 .0) (next .1) (taken .ensures) (kept .0) (kept .1 .0) (kept .1 .1 .0) (start .pre .0)
 
 loop-less : tie.Need-loop-less Inv-loop μ-loop
 loop-less c = let low = c .before .before .before .before .before .before .before .before .before .before .before .before .before .before .before .before .loop-test .taken in omega (arith, low)
@@ -127,11 +127,11 @@ loop-again c =
     let m₀ = memory (a .bits .now) (a .tags .now) (a .history .now) in
     let l = c .before .before .before .before .before .before .before .before .before .before .before .before .before .before .before .before .before .loop in
     let m = memory (l .bits) (l .tags) (l .history) in
-    let turn = c .before .before .before .before .before .before .before .before .before .before .before .before .take-turn in
+    let taken = c .before .before .before .before .before .before .before .before .before .before .before .before .take-step in
     let next = c .before .before .before .before .next2 .given in
-    let kept = turn .kept .1 .1 .1 in
+    let kept = taken .kept .1 .1 .1 in
     rw (c .of-sizes .ensures)
-    (reached-next p (a .limit) (a .r) m₀ (l .left) (l .at) m (l .inv) (c .before .before .before .before .before .before .before .before .before .before .before .before .before .before .before .before .loop-test .taken) _ _ _ (turn .result) (next .0 .0) (next .1) (turn .ensures) (kept .0) (kept .1 .0) (kept .1 .1 .0) (c .before .if2 .left))
+    (reached-next p (a .limit) (a .r) m₀ (l .left) (l .at) m (l .inv) (c .before .before .before .before .before .before .before .before .before .before .before .before .before .before .before .before .loop-test .taken) _ _ _ (taken .result) (next .0 .0) (next .1) (taken .ensures) (kept .0) (kept .1 .0) (kept .1 .1 .0) (c .before .if2 .left))
 
 ended-requires-4 : tie.Need-ended-requires-4 Inv-loop μ-loop
 ended-requires-4 c κs = search needs
@@ -164,7 +164,7 @@ run-from-spec =
     ended-requires
     returns
     loop-holds
-    take-turn-requires
+    take-step-requires
     enum-known-next
     sub-ended
     ended-requires-2

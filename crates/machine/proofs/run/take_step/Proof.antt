@@ -1,4 +1,4 @@
--- `machine::run::take_turn` meets its contract. Assumes nothing.
+-- `machine::run::take_step` meets its contract. Assumes nothing.
 use mathlib.Core.Path.{refl, sym, ap, _∙_}
 use native.Mathlib.Omega.{arith}
 use Rattle.rules.specs.Table.{program}
@@ -9,8 +9,8 @@ use Rattle.rules.specs.declared.MachineRefusal.the-variants.{AtEnd}
 use Rattle.machine.specs.Stages.{roomed}
 use Rattle.machine.proofs.Steps.{small, live, placed, coded, fits, judged-end, step-refuses, step-carries}
 use borrow.Author.Needs.{needs}
-use Rattle.machine.proofs.run.take_turn.Statement.{statement}
-use Rattle.machine.proofs.run.take_turn.Tie as tie
+use Rattle.machine.proofs.run.take_step.Statement.{statement}
+use Rattle.machine.proofs.run.take_step.Tie as tie
 
 returns : tie.Need-returns
 returns c =
@@ -69,8 +69,8 @@ returns-2 c =
     ∙ ap (λ (z : Decision). carried (a .r) m (roomed (a .r) z)) (c .before .before .before .before .before .before .before .before .before .before .decide-at .ensures)
     ∙ sym (step-carries (program (a .table .now) (a .count)) (a .r) m (start .pre .0) (start .pre .1) (c .before .before .before .before .before .before .before .before .before .before .before .before .before .before .if1 .left))
 
-pub take-turn-spec : {M : Type 1} → statement M
-take-turn-spec =
+pub take-step-spec : {M : Type 1} → statement M
+take-step-spec =
     tie.close
     (tie.spec
     returns
