@@ -16,14 +16,21 @@ second-requires c κs = search needs
 
 returns-2 : tie.Need-returns-2
 unfolding planned
-returns-2 c m = rw (le-leb _ _ (c .before .before .before .if1 .left), sym (ap (λ (z : Cell). z .tag) (c .before .before .second .ensures)), ne-eqb _ _ (c .if2 .taken))
+returns-2 c m =
+    let below = c .before .before .second .ensures in
+    let tag = sym (ap (λ (z : Cell). z .tag) below) in
+    rw (le-leb _ _ (c .before .before .before .if1 .left), tag, ne-eqb _ _ (c .if2 .taken))
 
 inside-requires : tie.Need-inside-requires
 inside-requires c κs = search needs
 
 returns-3 : tie.Need-returns-3
 unfolding planned
-returns-3 c m = rw (le-leb _ _ (c .before .before .before .before .before .before .if1 .left), sym (ap (λ (z : Cell). z .tag) (c .before .before .before .before .before .second .ensures)), c .before .before .before .if2 .left, sym (ap (λ (z : Cell). z .bits) (c .before .before .before .before .before .second .ensures)), sym (c .before .inside .ensures) ∙ not-true _ (c .if3 .taken))
+returns-3 c m =
+    let below = c .before .before .before .before .before .second .ensures in
+    let tag = sym (ap (λ (z : Cell). z .tag) below) in
+    let bits = sym (ap (λ (z : Cell). z .bits) below) in
+    rw (le-leb _ _ (c .before .before .before .before .before .before .if1 .left), tag, c .before .before .before .if2 .left, bits, sym (c .before .inside .ensures) ∙ not-true _ (c .if3 .taken))
 
 memory-address-requires : tie.Need-memory-address-requires
 memory-address-requires c κs = search needs
@@ -33,7 +40,12 @@ stored-requires c κs = search needs
 
 returns-4 : tie.Need-returns-4
 unfolding planned
-returns-4 c m = rw (c .stored .ensures m, c .before .memory-address .ensures, le-leb _ _ (c .before .before .before .before .before .before .before .before .if1 .left), sym (ap (λ (z : Cell). z .tag) (c .before .before .before .before .before .before .before .second .ensures)), c .before .before .before .before .before .if2 .left, sym (ap (λ (z : Cell). z .bits) (c .before .before .before .before .before .before .before .second .ensures)), sym (c .before .before .before .inside .ensures) ∙ not-false _ (c .before .before .if3 .left))
+returns-4 c m =
+    let below = c .before .before .before .before .before .before .before .second .ensures in
+    let tag = sym (ap (λ (z : Cell). z .tag) below) in
+    let bits = sym (ap (λ (z : Cell). z .bits) below) in
+    let two = le-leb _ _ (c .before .before .before .before .before .before .before .before .if1 .left) in
+    rw (c .stored .ensures m, c .before .memory-address .ensures, two, tag, c .before .before .before .before .before .if2 .left, bits, sym (c .before .before .before .inside .ensures) ∙ not-false _ (c .before .before .if3 .left))
 
 pub on-store-ind-spec : {M : Type 1} → statement M
 on-store-ind-spec = tie.close (tie.spec returns second-requires returns-2 inside-requires returns-3 memory-address-requires stored-requires returns-4)

@@ -1,8 +1,8 @@
 -- `machine::addresses::on_store_off` meets its contract. Assumes nothing.
-use Rattle.machine.proofs.Reach.{frame-in, frame-out, frame-below, frame-at}
-use borrow.Author.Tests.{lt-leb, le-leb}
 use Prim.Native.Nat.{_-_}
+use borrow.Author.Tests.{lt-leb, le-leb}
 use Rattle.machine.specs.Plan.{planned}
+use Rattle.machine.proofs.Reach.{frame-in, frame-out, frame-below, frame-at}
 use borrow.Author.Needs.{needs}
 use Rattle.machine.proofs.addresses.on_store_off.Statement.{statement}
 use Rattle.machine.proofs.addresses.on_store_off.Tie as tie
@@ -23,8 +23,12 @@ stored-requires c κs = search needs
 returns-2 : tie.Need-returns-2
 unfolding planned
 returns-2 c m =
-    let a = c .before .before .before .before .before .before .before .before .before .before .args in
-    rw (c .stored .ensures m, le-leb _ _ (c .before .before .before .before .before .before .before .before .if1 .left), frame-in (a .r) (a .offset) (a .r .sp - 1) (c .before .before .before .before .before .to .given .0 .0) (rw (c .before .before .before .before .before .to .given .1) at (c .before .before .before .before .before .before .before .moved-by .ensures)) (c .before .if2 .taken), frame-at (a .r) (a .offset) (c .before .before .before .before .before .to .given .0 .0) (rw (c .before .before .before .before .before .to .given .1) at (c .before .before .before .before .before .before .before .moved-by .ensures)))
+    let start = c .before .before .before .before .before .before .before .before .before .before in
+    let a = start .args in
+    let to = c .before .before .before .before .before .to .given in
+    let leads = rw (to .1) at (c .before .before .before .before .before .before .before .moved-by .ensures) in
+    let inside = frame-in (a .r) (a .offset) (a .r .sp - 1) (to .0 .0) leads (c .before .if2 .taken) in
+    rw (c .stored .ensures m, le-leb _ _ (c .before .before .before .before .before .before .before .before .if1 .left), inside, frame-at (a .r) (a .offset) (to .0 .0) leads)
 
 enum-told : tie.Need-enum-told
 enum-told c = search needs
@@ -32,24 +36,19 @@ enum-told c = search needs
 returns-3 : tie.Need-returns-3
 unfolding planned
 returns-3 c m =
-    let a = c .before .before .before .before .before .before .before .before .before .args in
-    rw (le-leb _ _ (c .before .before .before .before .before .before .before .if1 .left), frame-out (a .r) (a .offset) (a .r .sp - 1) (c .before .before .before .before .to .given .0 .0) (rw (c .before .before .before .before .to .given .1) at (c .before .before .before .before .before .before .moved-by .ensures)) (c .if2 .left))
+    let start = c .before .before .before .before .before .before .before .before .before in
+    let a = start .args in
+    let to = c .before .before .before .before .to .given in
+    let leads = rw (to .1) at (c .before .before .before .before .before .before .moved-by .ensures) in
+    rw (le-leb _ _ (c .before .before .before .before .before .before .before .if1 .left), frame-out (a .r) (a .offset) (a .r .sp - 1) (to .0 .0) leads (c .if2 .left))
 
 returns-4 : tie.Need-returns-4
 unfolding planned
 returns-4 c m =
-    let a = c .before .before .before .before .before .args in
-    rw (le-leb _ _ (c .before .before .before .if1 .left), frame-below (a .r) (a .offset) (a .r .sp - 1) (rw (c .enum-told .given .1) at (c .before .before .moved-by .ensures)))
+    let start = c .before .before .before .before .before in
+    let a = start .args in
+    let leads = rw (c .enum-told .given .1) at (c .before .before .moved-by .ensures) in
+    rw (le-leb _ _ (c .before .before .before .if1 .left), frame-below (a .r) (a .offset) (a .r .sp - 1) leads)
 
 pub on-store-off-spec : {M : Type 1} → statement M
-on-store-off-spec =
-    tie.close
-    (tie.spec
-    returns
-    moved-by-requires
-    enum-known-to
-    stored-requires
-    returns-2
-    enum-told
-    returns-3
-    returns-4)
+on-store-off-spec = tie.close (tie.spec returns moved-by-requires enum-known-to stored-requires returns-2 enum-told returns-3 returns-4)
