@@ -1,10 +1,10 @@
 #!/bin/sh
 # Sets the proved run, packer and unpacker beside the direct ones of plain.c and plain_image.c, and decimals beside
 # patterns in the proved assembler: bench/speed.sh [STEPS] prints millions of steps a second and nanoseconds an
-# instruction packed or assembled, bench/speed.sh --count machine instructions, which have no noise but need valgrind.
+# instruction packed or assembled, bench/speed.sh --count machine instructions, which have no noise: they are counted by
+# valgrind, or by the emulator's trace on another processor than x86-64, where of times only the ratios say something.
 # The direct ones are compiled by gcc -O2 and, where at hand, by clang -O3. Needs target/staticlib/libsam_c.a
-# (`rt staticlib sam_c`). On another processor than x86-64 all run in the same emulator, only the ratios say something,
-# and nothing can be counted.
+# (`rt staticlib sam_c`).
 set -eu
 cd "$(dirname "$0")/.."
 . bench/toolchain.sh
@@ -19,10 +19,14 @@ skip() {
     exit 0
 }
 
-# The machine instructions that a program makes.
+# The machine instructions that a program makes. The emulator's trace has a line for each.
 instructions() {
-    valgrind --tool=cachegrind --cache-sim=no --cachegrind-out-file=/dev/null "$@" 2>&1 |
-        sed -n 's/.*I *refs: *//p' | tr -d ,
+    if [ -n "$RUN" ]; then
+        $RUN -singlestep -d exec,nochain -D /dev/stdout "$@" | grep -c '^Trace'
+    else
+        valgrind --tool=cachegrind --cache-sim=no --cachegrind-out-file=/dev/null "$@" 2>&1 |
+            sed -n 's/.*I *refs: *//p' | tr -d ,
+    fi
 }
 
 # Instructions a step of SIDE NAME H: those of runs with a limit, less those of as many runs with limit 0.
@@ -45,22 +49,22 @@ print_counts() {
 }
 
 count_all() {
-    echo "machine instructions a step, by valgrind"
+    echo "machine instructions a step"
     for h in 0 8192; do
-        "$speed" names | while read -r name; do
+        $RUN "$speed" names | while read -r name; do
             line=$(printf '%-16s H %4d' "$name" "$h")
             print_counts "$line" "$(a_step sam "$name" "$h")" "$(a_step plain "$name" "$h")"
         done
     done
-    echo "machine instructions an instruction of a full program, by valgrind"
-    "$image_speed" names | while read -r name; do
+    echo "machine instructions an instruction of a full program"
+    $RUN "$image_speed" names | while read -r name; do
         print_counts "$name" "$(a_place "$image_speed" sam "$name")" "$(a_place "$image_speed" plain "$name")"
     done
 }
 
 count_texts() {
-    echo "machine instructions an instruction assembled, by valgrind"
-    "$text_speed" names | while read -r name; do
+    echo "machine instructions an instruction assembled"
+    $RUN "$text_speed" names | while read -r name; do
         counted=$(a_place "$text_speed" "$name")
         : "${first:=$counted}"
         awk -v name="$name" -v sam="$counted" -v first="$first" 'BEGIN {
@@ -98,8 +102,7 @@ against() {
 c_works || skip "$WHY"
 [ -f "$library" ] || skip "no $library; make it with: rt staticlib sam_c"
 if [ "${1:-}" = --count ]; then
-    [ -z "$RUN" ] || skip "the emulator counts no instructions"
-    first_command valgrind >/dev/null || skip "there is no valgrind (Debian: valgrind)"
+    [ -n "$RUN" ] || first_command valgrind >/dev/null || skip "there is no valgrind (Debian: valgrind)"
 fi
 mkdir -p target/bench
 texts "$@"
