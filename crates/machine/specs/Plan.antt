@@ -3,7 +3,7 @@ use Prim.Native.Nat.{ℕ, _+_, _-_}
 use mathlib.Core.Path.{_≡_}
 use Rattle.rules.specs.Tags.{int, ma, pa}
 use Rattle.rules.specs.Cells.{Cells, cellAt}
-use Rattle.rules.specs.Effects.{Written, nothing, cell, pair, zeros, effect}
+use Rattle.rules.specs.Effects.{Written, nothing, cell, pair, effect}
 use Rattle.rules.specs.declared.Cell.{Cell}
 use Rattle.rules.specs.declared.Registers.{Registers}
 use Rattle.rules.specs.declared.Effect.{Effect}
@@ -22,16 +22,10 @@ cellOf d = record { bits = d .bits; tag = d .tag }
 abbrev pub below : Registers → Cells → ℕ → Cell
 below r c k = cellAt c (record { 0 = r .sp - k })
 
--- ---- the effects, one for each shape: no cell is written
+-- ---- the effects, one for each shape, in three groups: no cell is written
 
 abbrev pub jumps : Registers → Plan → Effect
 jumps r d = effect (d .bits) (d .sp) (r .fbr) 0 nothing
-
-abbrev pub noneAt : ℕ → Written
-noneAt a = record { at = a; count = 0; first = int 0; second = int 0 }
-
-abbrev pub moves : Registers → Plan → Effect
-moves r d = effect (r .pc + 1) (d .sp) (r .fbr) 0 (noneAt (d .at))
 
 abbrev pub frames : Registers → Plan → Effect
 frames r d = effect (r .pc + 1) (d .sp) (d .at) 0 nothing
@@ -53,13 +47,19 @@ calls r d = effect (d .bits) (d .at + 1) (r .fbr) 0 (cell (d .at) (pa (r .pc + 1
 abbrev pub links : Registers → Effect
 links r = effect (r .pc + 1) (r .sp + 1) (r .sp) 0 (cell (r .sp) (ma (r .fbr)))
 
--- ---- two cells, and INT 0 up to SP
+-- ---- two cells are, or any number of INT 0
 
 abbrev pub swaps : Registers → Cells → Effect
 swaps r c = effect (r .pc + 1) (r .sp) (r .fbr) 0 (pair (r .sp - 2) (below r c 1) (below r c 2))
 
+abbrev pub zerosAt : ℕ → ℕ → Written
+zerosAt a n = record { at = a; count = n; first = int 0; second = int 0 }
+
+abbrev pub moves : Registers → Plan → Effect
+moves r d = effect (r .pc + 1) (d .sp) (r .fbr) 0 (zerosAt (d .at) 0)
+
 abbrev pub fills : Registers → Plan → Effect
-fills r d = effect (r .pc + 1) (d .sp) (r .fbr) 0 (zeros (d .at) (d .sp))
+fills r d = effect (r .pc + 1) (d .sp) (r .fbr) 0 (zerosAt (d .at) (d .sp - d .at))
 
 -- ---- each shape
 

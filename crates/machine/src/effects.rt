@@ -1,11 +1,12 @@
 // The effect of a plan, by its shape, as specs/Plan.antt has it. Nothing is written here.
 ghost use mathlib.Core.Path.{_≡_};
-ghost use Prim.Native.Nat.{_-_, _<_};
+ghost use Prim.Native.Nat.{_-_, _+_, _<_};
 ghost use Rattle.rules.specs.Cells.{cells};
+ghost use Rattle.rules.specs.Effects.{nothing, cell, effect};
 ghost use Rattle.machine.specs.Spans.{cellSpan};
 ghost use Rattle.machine.specs.Small.{Small};
 ghost use Rattle.machine.specs.Live.{Live};
-ghost use Rattle.machine.specs.Plan.{jumps, moves, frames, halts, results, stores, calls, links, swaps, fills};
+ghost use Rattle.machine.specs.Plan.{zerosAt, jumps, moves, frames, halts, results, stores, calls, links, swaps, fills};
 use crate::cells;
 use crate::cells::INT_ZERO;
 use crate::plans::Plan;
@@ -13,15 +14,16 @@ use rules::Cell;
 use rules::Effect;
 use rules::Registers;
 
-// PC is the planned address.
-pub(crate) fn jumps(r: Registers, d: Plan) -> Effect
-    ensures { λ e. ⌜ e ≡ jumps r d ⌝ }
+// ---- no cell is written
+
+fn of_none(pc: usize, sp: usize, fbr: usize, halt: usize) -> Effect
+    ensures { λ e. ⌜ e ≡ effect pc sp fbr halt nothing ⌝ }
 {
     Effect {
-        pc: d.bits as usize,
-        sp: d.sp,
-        fbr: r.fbr,
-        halt: 0,
+        pc,
+        sp,
+        fbr,
+        halt,
         at: 0,
         count: 0,
         first: INT_ZERO,
@@ -29,21 +31,11 @@ pub(crate) fn jumps(r: Registers, d: Plan) -> Effect
     }
 }
 
-// SP moves down.
-pub(crate) fn moves(r: Registers, d: Plan) -> Effect
-    requires { ⌜ Small r ⌝ }
-    ensures { λ e. ⌜ e ≡ moves r d ⌝ }
+// PC is the planned address.
+pub(crate) fn jumps(r: Registers, d: Plan) -> Effect
+    ensures { λ e. ⌜ e ≡ jumps r d ⌝ }
 {
-    Effect {
-        pc: r.pc + 1,
-        sp: d.sp,
-        fbr: r.fbr,
-        halt: 0,
-        at: d.at,
-        count: 0,
-        first: INT_ZERO,
-        second: INT_ZERO,
-    }
+    of_none(d.bits as usize, d.sp, r.fbr, 0)
 }
 
 // FBR is the address.
@@ -51,30 +43,29 @@ pub(crate) fn frames(r: Registers, d: Plan) -> Effect
     requires { ⌜ Small r ⌝ }
     ensures { λ e. ⌜ e ≡ frames r d ⌝ }
 {
-    Effect {
-        pc: r.pc + 1,
-        sp: d.sp,
-        fbr: d.at,
-        halt: 0,
-        at: 0,
-        count: 0,
-        first: INT_ZERO,
-        second: INT_ZERO,
-    }
+    of_none(r.pc + 1, d.sp, d.at, 0)
 }
 
 // HALT is set.
 pub(crate) fn halts(r: Registers) -> Effect
     ensures { λ e. ⌜ e ≡ halts r ⌝ }
 {
+    of_none(r.pc, r.sp, r.fbr, 1)
+}
+
+// ---- one cell is
+
+fn of_one(pc: usize, sp: usize, fbr: usize, at: usize, c: Cell) -> Effect
+    ensures { λ e. ⌜ e ≡ effect pc sp fbr 0 (cell at c) ⌝ }
+{
     Effect {
-        pc: r.pc,
-        sp: r.sp,
-        fbr: r.fbr,
-        halt: 1,
-        at: 0,
-        count: 0,
-        first: INT_ZERO,
+        pc,
+        sp,
+        fbr,
+        halt: 0,
+        at,
+        count: 1,
+        first: c,
         second: INT_ZERO,
     }
 }
@@ -84,19 +75,11 @@ pub(crate) fn results(r: Registers, d: Plan) -> Effect
     requires { ⌜ Small r × (d .at < cellSpan) ⌝ }
     ensures { λ e. ⌜ e ≡ results r d ⌝ }
 {
-    Effect {
-        pc: r.pc + 1,
-        sp: d.at + 1,
-        fbr: r.fbr,
-        halt: 0,
-        at: d.at,
-        count: 1,
-        first: Cell {
-            bits: d.bits,
-            tag: d.tag,
-        },
-        second: INT_ZERO,
-    }
+    let c = Cell {
+        bits: d.bits,
+        tag: d.tag,
+    };
+    of_one(r.pc + 1, d.at + 1, r.fbr, d.at, c)
 }
 
 // The top is stored at the address.
@@ -104,16 +87,7 @@ pub(crate) fn stores(r: Registers, d: Plan, bits: &[u32], tags: &[u8]) -> Effect
     requires { ⌜ Small r × Live r (now bits) (now tags) ⌝ }
     ensures { λ e. ⌜ e ≡ stores r (cells (now (bits .entry)) (now (tags .entry))) d ⌝ }
 {
-    Effect {
-        pc: r.pc + 1,
-        sp: d.sp,
-        fbr: r.fbr,
-        halt: 0,
-        at: d.at,
-        count: 1,
-        first: cells::top(r, bits, tags),
-        second: INT_ZERO,
-    }
+    of_one(r.pc + 1, d.sp, r.fbr, d.at, cells::top(r, bits, tags))
 }
 
 // PC is the planned address, and the address after the call is pushed.
@@ -122,16 +96,8 @@ pub(crate) fn calls(r: Registers, d: Plan) -> Effect
     ensures { λ e. ⌜ e ≡ calls r d ⌝ }
 {
     let next = r.pc + 1;
-    Effect {
-        pc: d.bits as usize,
-        sp: d.at + 1,
-        fbr: r.fbr,
-        halt: 0,
-        at: d.at,
-        count: 1,
-        first: cells::program_cell(next as u32),
-        second: INT_ZERO,
-    }
+    let c = cells::program_cell(next as u32);
+    of_one(d.bits as usize, d.at + 1, r.fbr, d.at, c)
 }
 
 // The old FBR is pushed, and FBR is the old SP.
@@ -139,17 +105,11 @@ pub(crate) fn links(r: Registers) -> Effect
     requires { ⌜ Small r ⌝ }
     ensures { λ e. ⌜ e ≡ links r ⌝ }
 {
-    Effect {
-        pc: r.pc + 1,
-        sp: r.sp + 1,
-        fbr: r.sp,
-        halt: 0,
-        at: r.sp,
-        count: 1,
-        first: cells::memory_cell(r.fbr as u32),
-        second: INT_ZERO,
-    }
+    let c = cells::memory_cell(r.fbr as u32);
+    of_one(r.pc + 1, r.sp + 1, r.sp, r.sp, c)
 }
+
+// ---- two are, or any number of INT 0
 
 // The two top values change places.
 pub(crate) fn swaps(r: Registers, bits: &[u32], tags: &[u8]) -> Effect
@@ -168,6 +128,31 @@ pub(crate) fn swaps(r: Registers, bits: &[u32], tags: &[u8]) -> Effect
     }
 }
 
+// SP moves, and so many cells from the address on are INT 0.
+fn of_zeros(r: Registers, d: Plan, count: usize) -> Effect
+    requires { ⌜ Small r ⌝ }
+    ensures { λ e. ⌜ e ≡ effect (r .pc + 1) (d .sp) (r .fbr) 0 (zerosAt (d .at) count) ⌝ }
+{
+    Effect {
+        pc: r.pc + 1,
+        sp: d.sp,
+        fbr: r.fbr,
+        halt: 0,
+        at: d.at,
+        count,
+        first: INT_ZERO,
+        second: INT_ZERO,
+    }
+}
+
+// SP moves down.
+pub(crate) fn moves(r: Registers, d: Plan) -> Effect
+    requires { ⌜ Small r ⌝ }
+    ensures { λ e. ⌜ e ≡ moves r d ⌝ }
+{
+    of_zeros(r, d, 0)
+}
+
 // How far `to` lies above `from`, if it does.
 fn above(to: usize, from: usize) -> usize
     ensures { λ n. ⌜ n ≡ to - from ⌝ }
@@ -178,19 +163,10 @@ fn above(to: usize, from: usize) -> usize
     to - from
 }
 
-// INT 0 from the address up to the new SP.
+// SP moves up, and what lies between is INT 0.
 pub(crate) fn fills(r: Registers, d: Plan) -> Effect
     requires { ⌜ Small r ⌝ }
     ensures { λ e. ⌜ e ≡ fills r d ⌝ }
 {
-    Effect {
-        pc: r.pc + 1,
-        sp: d.sp,
-        fbr: r.fbr,
-        halt: 0,
-        at: d.at,
-        count: above(d.sp, d.at),
-        first: INT_ZERO,
-        second: INT_ZERO,
-    }
+    of_zeros(r, d, above(d.sp, d.at))
 }

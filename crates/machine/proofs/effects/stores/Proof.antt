@@ -4,14 +4,17 @@ use borrow.Author.Needs.{needs}
 use Rattle.machine.proofs.effects.stores.Statement.{statement}
 use Rattle.machine.proofs.effects.stores.Tie as tie
 
-add-t5 : tie.Need-add-t5
-add-t5 c = search needs
+add-of-one : tie.Need-add-of-one
+add-of-one c = search needs
 
 top-requires : tie.Need-top-requires
 top-requires c κs = search needs
 
+of-one-requires : tie.Need-of-one-requires
+of-one-requires c κs = search needs
+
 returns : tie.Need-returns
-returns c = rw (c .top .ensures) refl
+returns c = rw (c .of-one .ensures, c .before .top .ensures) refl
 
 pub stores-spec : {M : Type 1} → statement M
-stores-spec = tie.close (tie.spec add-t5 top-requires returns)
+stores-spec = tie.close (tie.spec add-of-one top-requires of-one-requires returns)
