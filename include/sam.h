@@ -65,7 +65,7 @@ enum {
  * program: bounds for the library as it is built for x86-64, kept by measurement and not by proof (docs/PERFORMANCE.md,
  * "The stack"). Assemble keeps its 256 labels there, 2,048 bytes; no call copies what it is lent. */
 enum {
-    SAM_ASSEMBLE_STACK = 3072,
+    SAM_ASSEMBLE_STACK = 2560,
     SAM_LIST_STACK = 1024,
     SAM_PACK_STACK = 256,
     SAM_UNPACK_STACK = 256,

@@ -1,4 +1,4 @@
--- The turns of a run with what is left of the limit as a difference, as the run's loop has it. Assumes nothing.
+-- Where the loop of a run stands, and where each step of it leads; and that a run of one step is that step. Assumes nothing.
 use Prim.Native.Nat.{ℕ, suc, _+_, _-_, _≤_, _<_}
 use mathlib.Core.Path.{_≡_, refl, sym, ap, ap₂, _∙_}
 use mathlib.Core.Bool.{true, false}

@@ -14,9 +14,8 @@ use rules::Cell;
 use rules::Effect;
 use rules::Registers;
 
-// ---- no cell is written
-
-fn of_none(pc: usize, sp: usize, fbr: usize, halt: usize) -> Effect
+// No cell is written.
+fn writing_none(pc: usize, sp: usize, fbr: usize, halt: usize) -> Effect
     ensures { λ e. ⌜ e ≡ effect pc sp fbr halt nothing ⌝ }
 {
     Effect {
@@ -35,7 +34,7 @@ fn of_none(pc: usize, sp: usize, fbr: usize, halt: usize) -> Effect
 pub(crate) fn jumps(r: Registers, d: Plan) -> Effect
     ensures { λ e. ⌜ e ≡ jumps r d ⌝ }
 {
-    of_none(d.bits as usize, d.sp, r.fbr, 0)
+    writing_none(d.bits as usize, d.sp, r.fbr, 0)
 }
 
 // FBR is the address.
@@ -43,19 +42,18 @@ pub(crate) fn frames(r: Registers, d: Plan) -> Effect
     requires { ⌜ Small r ⌝ }
     ensures { λ e. ⌜ e ≡ frames r d ⌝ }
 {
-    of_none(r.pc + 1, d.sp, d.at, 0)
+    writing_none(r.pc + 1, d.sp, d.at, 0)
 }
 
 // HALT is set.
 pub(crate) fn halts(r: Registers) -> Effect
     ensures { λ e. ⌜ e ≡ halts r ⌝ }
 {
-    of_none(r.pc, r.sp, r.fbr, 1)
+    writing_none(r.pc, r.sp, r.fbr, 1)
 }
 
-// ---- one cell is
-
-fn of_one(pc: usize, sp: usize, fbr: usize, at: usize, c: Cell) -> Effect
+// One cell is written.
+fn writing_one(pc: usize, sp: usize, fbr: usize, at: usize, c: Cell) -> Effect
     ensures { λ e. ⌜ e ≡ effect pc sp fbr 0 (cell at c) ⌝ }
 {
     Effect {
@@ -79,7 +77,7 @@ pub(crate) fn results(r: Registers, d: Plan) -> Effect
         bits: d.bits,
         tag: d.tag,
     };
-    of_one(r.pc + 1, d.at + 1, r.fbr, d.at, c)
+    writing_one(r.pc + 1, d.at + 1, r.fbr, d.at, c)
 }
 
 // The top is stored at the address.
@@ -87,7 +85,7 @@ pub(crate) fn stores(r: Registers, d: Plan, bits: &[u32], tags: &[u8]) -> Effect
     requires { ⌜ Small r × Live r (now bits) (now tags) ⌝ }
     ensures { λ e. ⌜ e ≡ stores r (cells (now (bits .entry)) (now (tags .entry))) d ⌝ }
 {
-    of_one(r.pc + 1, d.sp, r.fbr, d.at, cells::top(r, bits, tags))
+    writing_one(r.pc + 1, d.sp, r.fbr, d.at, cells::top(r, bits, tags))
 }
 
 // PC is the planned address, and the address after the call is pushed.
@@ -97,7 +95,7 @@ pub(crate) fn calls(r: Registers, d: Plan) -> Effect
 {
     let next = r.pc + 1;
     let c = cells::program_cell(next as u32);
-    of_one(d.bits as usize, d.at + 1, r.fbr, d.at, c)
+    writing_one(d.bits as usize, d.at + 1, r.fbr, d.at, c)
 }
 
 // The old FBR is pushed, and FBR is the old SP.
@@ -106,10 +104,8 @@ pub(crate) fn links(r: Registers) -> Effect
     ensures { λ e. ⌜ e ≡ links r ⌝ }
 {
     let c = cells::memory_cell(r.fbr as u32);
-    of_one(r.pc + 1, r.sp + 1, r.sp, r.sp, c)
+    writing_one(r.pc + 1, r.sp + 1, r.sp, r.sp, c)
 }
-
-// ---- two are, or any number of INT 0
 
 // The two top values change places.
 pub(crate) fn swaps(r: Registers, bits: &[u32], tags: &[u8]) -> Effect
@@ -128,8 +124,8 @@ pub(crate) fn swaps(r: Registers, bits: &[u32], tags: &[u8]) -> Effect
     }
 }
 
-// SP moves, and so many cells from the address on are INT 0.
-fn of_zeros(r: Registers, d: Plan, count: usize) -> Effect
+// SP moves, and so many cells from the address on become INT 0.
+fn writing_zeros(r: Registers, d: Plan, count: usize) -> Effect
     requires { ⌜ Small r ⌝ }
     ensures { λ e. ⌜ e ≡ effect (r .pc + 1) (d .sp) (r .fbr) 0 (zerosAt (d .at) count) ⌝ }
 {
@@ -150,7 +146,7 @@ pub(crate) fn moves(r: Registers, d: Plan) -> Effect
     requires { ⌜ Small r ⌝ }
     ensures { λ e. ⌜ e ≡ moves r d ⌝ }
 {
-    of_zeros(r, d, 0)
+    writing_zeros(r, d, 0)
 }
 
 // How far `to` lies above `from`, if it does.
@@ -168,5 +164,5 @@ pub(crate) fn fills(r: Registers, d: Plan) -> Effect
     requires { ⌜ Small r ⌝ }
     ensures { λ e. ⌜ e ≡ fills r d ⌝ }
 {
-    of_zeros(r, d, above(d.sp, d.at))
+    writing_zeros(r, d, above(d.sp, d.at))
 }

@@ -40,7 +40,7 @@ fn take_step(
 }
 
 // The same registers. N and H are written down as those of the run's start, which they are, so that the compiler does not carry them from step to step.
-fn of_sizes(n: usize, h: usize, r: Registers) -> Registers
+fn with_sizes(n: usize, h: usize, r: Registers) -> Registers
     requires { ⌜ (r .n ≡ n) × (r .h ≡ h) ⌝ }
     ensures { λ a. ⌜ a ≡ r ⌝ }
 {
@@ -96,7 +96,7 @@ pub(crate) fn run_from(
                 if registers.halt != 0 {
                     return ended(limit - left, Ending::Halted, registers);
                 }
-                at = of_sizes(r.n, r.h, registers);
+                at = with_sizes(r.n, r.h, registers);
             }
         }
     }

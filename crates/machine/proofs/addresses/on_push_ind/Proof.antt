@@ -12,9 +12,7 @@ use Rattle.machine.proofs.addresses.on_push_ind.Tie as tie
 
 returns : tie.Need-returns
 unfolding planned
-returns c m =
-    let start = c .before .before .before .before in
-    rw (le-leb _ _ (start .pre .2), ne-eqb _ _ (c .if1 .taken))
+returns c m = rw (le-leb _ _ (c .before .before .before .before .pre .2), ne-eqb _ _ (c .if1 .taken))
 
 sub-inside : tie.Need-sub-inside
 sub-inside c = search needs
@@ -24,9 +22,7 @@ inside-requires c κs = search needs
 
 returns-2 : tie.Need-returns-2
 unfolding planned
-returns-2 c m =
-    let start = c .before .before .before .before .before .before .before in
-    rw (le-leb _ _ (start .pre .2), c .before .before .before .if1 .left, sym (c .before .inside .ensures) ∙ not-true _ (c .if2 .taken))
+returns-2 c m = rw (le-leb _ _ (c .before .before .before .before .before .before .before .pre .2), c .before .before .before .if1 .left, sym (c .before .inside .ensures) ∙ not-true _ (c .if2 .taken))
 
 memory-address-requires : tie.Need-memory-address-requires
 memory-address-requires c κs = search needs
@@ -43,8 +39,9 @@ result-requires c κs = search needs
 returns-3 : tie.Need-returns-3
 unfolding planned
 returns-3 c m =
-    let start = c .before .before .before .before .before .before .before .before .before .before in
-    rw (c .result .ensures m, c .before .cell-at .ensures, c .before .before .memory-address .ensures, le-leb _ _ (start .pre .2), c .before .before .before .before .before .before .if1 .left, sym (c .before .before .before .before .inside .ensures) ∙ not-false _ (c .before .before .before .if2 .left))
+    let at-if1 = c .before .before .before .before .before .before in
+    let start = at-if1 .before .before .before .before in
+    rw (c .result .ensures m, c .before .cell-at .ensures, c .before .before .memory-address .ensures, le-leb _ _ (start .pre .2), at-if1 .if1 .left, sym (c .before .before .before .before .inside .ensures) ∙ not-false _ (c .before .before .before .if2 .left))
 
 pub on-push-ind-spec : {M : Type 1} → statement M
 on-push-ind-spec =

@@ -20,10 +20,12 @@ pushed-requires c κs = search needs
 returns : tie.Need-returns
 unfolding planned
 returns c m =
-    let start = c .before .before .before .before .before .before .before .before .before .before .before in
+    let at-to = c .before .before .before .before .before .before in
+    let at-moved-by = at-to .before .before in
+    let start = at-moved-by .before .before .before in
     let a = start .args in
-    let to = c .before .before .before .before .before .before .to .given in
-    let leads = rw (to .1) at (c .before .before .before .before .before .before .before .before .moved-by .ensures) in
+    let to = at-to .to .given in
+    let leads = rw (to .1) at (at-moved-by .moved-by .ensures) in
     let inside = frame-in (a .r) (a .offset) (a .r .sp) (to .0 .0) leads (c .before .before .if1 .taken) in
     rw (c .pushed .ensures m, c .before .cell-at .ensures, inside, frame-at (a .r) (a .offset) (to .0 .0) leads)
 
@@ -33,10 +35,11 @@ enum-told c = search needs
 returns-2 : tie.Need-returns-2
 unfolding planned
 returns-2 c m =
-    let start = c .before .before .before .before .before .before .before .before .before in
+    let at-moved-by = c .before .before .before .before .before .before in
+    let start = at-moved-by .before .before .before in
     let a = start .args in
     let to = c .before .before .before .before .to .given in
-    let leads = rw (to .1) at (c .before .before .before .before .before .before .moved-by .ensures) in
+    let leads = rw (to .1) at (at-moved-by .moved-by .ensures) in
     rw (frame-out (a .r) (a .offset) (a .r .sp) (to .0 .0) leads (c .if1 .left))
 
 returns-3 : tie.Need-returns-3

@@ -27,10 +27,12 @@ inside-requires c κs = search needs
 returns-3 : tie.Need-returns-3
 unfolding planned
 returns-3 c m =
-    let below = c .before .before .before .before .before .second .ensures in
+    let at-second = c .before .before .before .before .before in
+    let at-if1 = at-second .before in
+    let below = at-second .second .ensures in
     let tag = sym (ap (λ (z : Cell). z .tag) below) in
     let bits = sym (ap (λ (z : Cell). z .bits) below) in
-    rw (le-leb _ _ (c .before .before .before .before .before .before .if1 .left), tag, c .before .before .before .if2 .left, bits, sym (c .before .inside .ensures) ∙ not-true _ (c .if3 .taken))
+    rw (le-leb _ _ (at-if1 .if1 .left), tag, c .before .before .before .if2 .left, bits, sym (c .before .inside .ensures) ∙ not-true _ (c .if3 .taken))
 
 memory-address-requires : tie.Need-memory-address-requires
 memory-address-requires c κs = search needs
@@ -41,11 +43,14 @@ stored-requires c κs = search needs
 returns-4 : tie.Need-returns-4
 unfolding planned
 returns-4 c m =
-    let below = c .before .before .before .before .before .before .before .second .ensures in
+    let at-if2 = c .before .before .before .before .before in
+    let at-second = at-if2 .before .before in
+    let at-if1 = at-second .before in
+    let below = at-second .second .ensures in
     let tag = sym (ap (λ (z : Cell). z .tag) below) in
     let bits = sym (ap (λ (z : Cell). z .bits) below) in
-    let two = le-leb _ _ (c .before .before .before .before .before .before .before .before .if1 .left) in
-    rw (c .stored .ensures m, c .before .memory-address .ensures, two, tag, c .before .before .before .before .before .if2 .left, bits, sym (c .before .before .before .inside .ensures) ∙ not-false _ (c .before .before .if3 .left))
+    let two = le-leb _ _ (at-if1 .if1 .left) in
+    rw (c .stored .ensures m, c .before .memory-address .ensures, two, tag, at-if2 .if2 .left, bits, sym (c .before .before .before .inside .ensures) ∙ not-false _ (c .before .before .if3 .left))
 
 pub on-store-ind-spec : {M : Type 1} → statement M
 on-store-ind-spec = tie.close (tie.spec returns second-requires returns-2 inside-requires returns-3 memory-address-requires stored-requires returns-4)

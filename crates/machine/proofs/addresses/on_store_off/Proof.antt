@@ -23,12 +23,15 @@ stored-requires c κs = search needs
 returns-2 : tie.Need-returns-2
 unfolding planned
 returns-2 c m =
-    let start = c .before .before .before .before .before .before .before .before .before .before in
+    let at-to = c .before .before .before .before .before in
+    let at-moved-by = at-to .before .before in
+    let at-if1 = at-moved-by .before in
+    let start = at-if1 .before .before in
     let a = start .args in
-    let to = c .before .before .before .before .before .to .given in
-    let leads = rw (to .1) at (c .before .before .before .before .before .before .before .moved-by .ensures) in
+    let to = at-to .to .given in
+    let leads = rw (to .1) at (at-moved-by .moved-by .ensures) in
     let inside = frame-in (a .r) (a .offset) (a .r .sp - 1) (to .0 .0) leads (c .before .if2 .taken) in
-    rw (c .stored .ensures m, le-leb _ _ (c .before .before .before .before .before .before .before .before .if1 .left), inside, frame-at (a .r) (a .offset) (to .0 .0) leads)
+    rw (c .stored .ensures m, le-leb _ _ (at-if1 .if1 .left), inside, frame-at (a .r) (a .offset) (to .0 .0) leads)
 
 enum-told : tie.Need-enum-told
 enum-told c = search needs
@@ -36,11 +39,13 @@ enum-told c = search needs
 returns-3 : tie.Need-returns-3
 unfolding planned
 returns-3 c m =
-    let start = c .before .before .before .before .before .before .before .before .before in
+    let at-moved-by = c .before .before .before .before .before .before in
+    let at-if1 = at-moved-by .before in
+    let start = at-if1 .before .before in
     let a = start .args in
     let to = c .before .before .before .before .to .given in
-    let leads = rw (to .1) at (c .before .before .before .before .before .before .moved-by .ensures) in
-    rw (le-leb _ _ (c .before .before .before .before .before .before .before .if1 .left), frame-out (a .r) (a .offset) (a .r .sp - 1) (to .0 .0) leads (c .if2 .left))
+    let leads = rw (to .1) at (at-moved-by .moved-by .ensures) in
+    rw (le-leb _ _ (at-if1 .if1 .left), frame-out (a .r) (a .offset) (a .r .sp - 1) (to .0 .0) leads (c .if2 .left))
 
 returns-4 : tie.Need-returns-4
 unfolding planned

@@ -48,10 +48,11 @@ stores-requires c κs = c .before .before .before .before .before .before .befor
 
 commit-requires-3 : tie.Need-commit-requires-3
 commit-requires-3 c κs =
-    let start = c .before .before .before .before .before .before .before .before .before .before .before in
+    let at-enum-told3 = c .before .before .before .before .before .before in
+    let start = at-enum-told3 .before .before .before .before .before in
     let a = start .args in
     let m = memory (a .bits .now) (a .tags .now) (a .history .now) in
-    fits-as (a .r) (a .d) Store (c .before .before .before .before .before .before .enum-told3 .given .1) m (c .before .before .before .stores .ensures) refl (start .pre .1)
+    fits-as (a .r) (a .d) Store (at-enum-told3 .enum-told3 .given .1) m (c .before .before .before .stores .ensures) refl (start .pre .1)
 
 enum-told-4 : tie.Need-enum-told-4
 enum-told-4 c = search needs
@@ -131,10 +132,11 @@ swaps-requires c κs = c .before .before .before .before .before .before .before
 
 commit-requires-9 : tie.Need-commit-requires-9
 commit-requires-9 c κs =
-    let start = c .before .before .before .before .before .before .before .before .before .before .before in
+    let at-enum-told9 = c .before .before .before .before .before .before in
+    let start = at-enum-told9 .before .before .before .before .before in
     let a = start .args in
     let m = memory (a .bits .now) (a .tags .now) (a .history .now) in
-    fits-as (a .r) (a .d) Swap (c .before .before .before .before .before .before .enum-told9 .given .1) m (c .before .before .before .swaps .ensures) refl (start .pre .1)
+    fits-as (a .r) (a .d) Swap (at-enum-told9 .enum-told9 .given .1) m (c .before .before .before .swaps .ensures) refl (start .pre .1)
 
 enum-told-10 : tie.Need-enum-told-10
 enum-told-10 c = search needs
@@ -175,10 +177,13 @@ same-length-3 c = c .before .before .before .before .before .before .commit .kep
 
 returns : tie.Need-returns
 returns c =
-    let a = c .before .before .before .before .before .before .before .before .before .before .before .before .before .before .before .before .args in
+    let at-commit = c .before .before .before .before .before .before in
+    let at-results = at-commit .before .before .before .before in
+    let at-enum-told = at-results .before in
+    let start = at-enum-told .before .before .before .before .before in
+    let a = start .args in
     let m = memory (a .bits .now) (a .tags .now) (a .history .now) in
-    let at = c .before .before .before .before .before .before .before .before .before .before .before in
-    c .before .before .before .before .before .before .commit .ensures ∙ carried-as (a .r) (a .d) Result (at .enum-told .given .1) m (c .before .before .before .before .before .before .before .before .before .before .results .ensures) refl
+    at-commit .commit .ensures ∙ carried-as (a .r) (a .d) Result (at-enum-told .enum-told .given .1) m (at-results .results .ensures) refl
 
 same-length-4 : tie.Need-same-length-4
 same-length-4 c = c .before .before .before .before .before .before .commit2 .kept .1 .1 .0
@@ -191,10 +196,13 @@ same-length-6 c = c .before .before .before .before .before .before .commit2 .ke
 
 returns-2 : tie.Need-returns-2
 returns-2 c =
-    let a = c .before .before .before .before .before .before .before .before .before .before .before .before .before .before .before .before .args in
+    let at-commit2 = c .before .before .before .before .before .before in
+    let at-jumps = at-commit2 .before .before .before .before in
+    let at-enum-told2 = at-jumps .before in
+    let start = at-enum-told2 .before .before .before .before .before in
+    let a = start .args in
     let m = memory (a .bits .now) (a .tags .now) (a .history .now) in
-    let at = c .before .before .before .before .before .before .before .before .before .before .before in
-    c .before .before .before .before .before .before .commit2 .ensures ∙ carried-as (a .r) (a .d) Jump (at .enum-told2 .given .1) m (c .before .before .before .before .before .before .before .before .before .before .jumps .ensures) refl
+    at-commit2 .commit2 .ensures ∙ carried-as (a .r) (a .d) Jump (at-enum-told2 .enum-told2 .given .1) m (at-jumps .jumps .ensures) refl
 
 same-length-7 : tie.Need-same-length-7
 same-length-7 c = c .before .before .before .before .before .before .commit3 .kept .1 .1 .0
@@ -207,10 +215,13 @@ same-length-9 c = c .before .before .before .before .before .before .commit3 .ke
 
 returns-3 : tie.Need-returns-3
 returns-3 c =
-    let a = c .before .before .before .before .before .before .before .before .before .before .before .before .before .before .before .before .before .before .args in
+    let at-commit3 = c .before .before .before .before .before .before in
+    let at-stores = at-commit3 .before .before .before .before in
+    let at-enum-told3 = at-stores .before .before .before in
+    let start = at-enum-told3 .before .before .before .before .before in
+    let a = start .args in
     let m = memory (a .bits .now) (a .tags .now) (a .history .now) in
-    let at = c .before .before .before .before .before .before .before .before .before .before .before .before .before in
-    c .before .before .before .before .before .before .commit3 .ensures ∙ carried-as (a .r) (a .d) Store (at .enum-told3 .given .1) m (c .before .before .before .before .before .before .before .before .before .before .stores .ensures) refl
+    at-commit3 .commit3 .ensures ∙ carried-as (a .r) (a .d) Store (at-enum-told3 .enum-told3 .given .1) m (at-stores .stores .ensures) refl
 
 same-length-10 : tie.Need-same-length-10
 same-length-10 c = c .before .before .before .before .before .before .commit4 .kept .1 .1 .0
@@ -223,10 +234,13 @@ same-length-12 c = c .before .before .before .before .before .before .commit4 .k
 
 returns-4 : tie.Need-returns-4
 returns-4 c =
-    let a = c .before .before .before .before .before .before .before .before .before .before .before .before .before .before .before .before .args in
+    let at-commit4 = c .before .before .before .before .before .before in
+    let at-calls = at-commit4 .before .before .before .before in
+    let at-enum-told4 = at-calls .before in
+    let start = at-enum-told4 .before .before .before .before .before in
+    let a = start .args in
     let m = memory (a .bits .now) (a .tags .now) (a .history .now) in
-    let at = c .before .before .before .before .before .before .before .before .before .before .before in
-    c .before .before .before .before .before .before .commit4 .ensures ∙ carried-as (a .r) (a .d) Call (at .enum-told4 .given .1) m (c .before .before .before .before .before .before .before .before .before .before .calls .ensures) refl
+    at-commit4 .commit4 .ensures ∙ carried-as (a .r) (a .d) Call (at-enum-told4 .enum-told4 .given .1) m (at-calls .calls .ensures) refl
 
 same-length-13 : tie.Need-same-length-13
 same-length-13 c = c .before .before .before .before .before .before .commit5 .kept .1 .1 .0
@@ -239,10 +253,13 @@ same-length-15 c = c .before .before .before .before .before .before .commit5 .k
 
 returns-5 : tie.Need-returns-5
 returns-5 c =
-    let a = c .before .before .before .before .before .before .before .before .before .before .before .before .before .before .before .before .args in
+    let at-commit5 = c .before .before .before .before .before .before in
+    let at-links = at-commit5 .before .before .before .before in
+    let at-enum-told5 = at-links .before in
+    let start = at-enum-told5 .before .before .before .before .before in
+    let a = start .args in
     let m = memory (a .bits .now) (a .tags .now) (a .history .now) in
-    let at = c .before .before .before .before .before .before .before .before .before .before .before in
-    c .before .before .before .before .before .before .commit5 .ensures ∙ carried-as (a .r) (a .d) Link (at .enum-told5 .given .1) m (c .before .before .before .before .before .before .before .before .before .before .links .ensures) refl
+    at-commit5 .commit5 .ensures ∙ carried-as (a .r) (a .d) Link (at-enum-told5 .enum-told5 .given .1) m (at-links .links .ensures) refl
 
 same-length-16 : tie.Need-same-length-16
 same-length-16 c = c .before .before .before .before .before .before .commit6 .kept .1 .1 .0
@@ -255,10 +272,13 @@ same-length-18 c = c .before .before .before .before .before .before .commit6 .k
 
 returns-6 : tie.Need-returns-6
 returns-6 c =
-    let a = c .before .before .before .before .before .before .before .before .before .before .before .before .before .before .before .before .args in
+    let at-commit6 = c .before .before .before .before .before .before in
+    let at-moves = at-commit6 .before .before .before .before in
+    let at-enum-told6 = at-moves .before in
+    let start = at-enum-told6 .before .before .before .before .before in
+    let a = start .args in
     let m = memory (a .bits .now) (a .tags .now) (a .history .now) in
-    let at = c .before .before .before .before .before .before .before .before .before .before .before in
-    c .before .before .before .before .before .before .commit6 .ensures ∙ carried-as (a .r) (a .d) Move (at .enum-told6 .given .1) m (c .before .before .before .before .before .before .before .before .before .before .moves .ensures) refl
+    at-commit6 .commit6 .ensures ∙ carried-as (a .r) (a .d) Move (at-enum-told6 .enum-told6 .given .1) m (at-moves .moves .ensures) refl
 
 same-length-19 : tie.Need-same-length-19
 same-length-19 c = c .before .before .before .before .before .before .commit7 .kept .1 .1 .0
@@ -271,10 +291,13 @@ same-length-21 c = c .before .before .before .before .before .before .commit7 .k
 
 returns-7 : tie.Need-returns-7
 returns-7 c =
-    let a = c .before .before .before .before .before .before .before .before .before .before .before .before .before .before .before .before .args in
+    let at-commit7 = c .before .before .before .before .before .before in
+    let at-frames = at-commit7 .before .before .before .before in
+    let at-enum-told7 = at-frames .before in
+    let start = at-enum-told7 .before .before .before .before .before in
+    let a = start .args in
     let m = memory (a .bits .now) (a .tags .now) (a .history .now) in
-    let at = c .before .before .before .before .before .before .before .before .before .before .before in
-    c .before .before .before .before .before .before .commit7 .ensures ∙ carried-as (a .r) (a .d) Frame (at .enum-told7 .given .1) m (c .before .before .before .before .before .before .before .before .before .before .frames .ensures) refl
+    at-commit7 .commit7 .ensures ∙ carried-as (a .r) (a .d) Frame (at-enum-told7 .enum-told7 .given .1) m (at-frames .frames .ensures) refl
 
 same-length-22 : tie.Need-same-length-22
 same-length-22 c = c .before .before .before .before .before .before .commit8 .kept .1 .1 .0
@@ -287,10 +310,13 @@ same-length-24 c = c .before .before .before .before .before .before .commit8 .k
 
 returns-8 : tie.Need-returns-8
 returns-8 c =
-    let a = c .before .before .before .before .before .before .before .before .before .before .before .before .before .before .before .before .args in
+    let at-commit8 = c .before .before .before .before .before .before in
+    let at-halts = at-commit8 .before .before .before .before in
+    let at-enum-told8 = at-halts .before in
+    let start = at-enum-told8 .before .before .before .before .before in
+    let a = start .args in
     let m = memory (a .bits .now) (a .tags .now) (a .history .now) in
-    let at = c .before .before .before .before .before .before .before .before .before .before .before in
-    c .before .before .before .before .before .before .commit8 .ensures ∙ carried-as (a .r) (a .d) Halt (at .enum-told8 .given .1) m (c .before .before .before .before .before .before .before .before .before .before .halts .ensures) refl
+    at-commit8 .commit8 .ensures ∙ carried-as (a .r) (a .d) Halt (at-enum-told8 .enum-told8 .given .1) m (at-halts .halts .ensures) refl
 
 same-length-25 : tie.Need-same-length-25
 same-length-25 c = c .before .before .before .before .before .before .commit9 .kept .1 .1 .0
@@ -303,10 +329,13 @@ same-length-27 c = c .before .before .before .before .before .before .commit9 .k
 
 returns-9 : tie.Need-returns-9
 returns-9 c =
-    let a = c .before .before .before .before .before .before .before .before .before .before .before .before .before .before .before .before .before .before .args in
+    let at-commit9 = c .before .before .before .before .before .before in
+    let at-swaps = at-commit9 .before .before .before .before in
+    let at-enum-told9 = at-swaps .before .before .before in
+    let start = at-enum-told9 .before .before .before .before .before in
+    let a = start .args in
     let m = memory (a .bits .now) (a .tags .now) (a .history .now) in
-    let at = c .before .before .before .before .before .before .before .before .before .before .before .before .before in
-    c .before .before .before .before .before .before .commit9 .ensures ∙ carried-as (a .r) (a .d) Swap (at .enum-told9 .given .1) m (c .before .before .before .before .before .before .before .before .before .before .swaps .ensures) refl
+    at-commit9 .commit9 .ensures ∙ carried-as (a .r) (a .d) Swap (at-enum-told9 .enum-told9 .given .1) m (at-swaps .swaps .ensures) refl
 
 same-length-28 : tie.Need-same-length-28
 same-length-28 c = c .before .before .before .before .before .before .commit10 .kept .1 .1 .0
@@ -319,34 +348,42 @@ same-length-30 c = c .before .before .before .before .before .before .commit10 .
 
 returns-10 : tie.Need-returns-10
 returns-10 c =
-    let a = c .before .before .before .before .before .before .before .before .before .before .before .before .before .before .before .before .args in
+    let at-commit10 = c .before .before .before .before .before .before in
+    let at-fills = at-commit10 .before .before .before .before in
+    let at-enum-told10 = at-fills .before in
+    let start = at-enum-told10 .before .before .before .before .before in
+    let a = start .args in
     let m = memory (a .bits .now) (a .tags .now) (a .history .now) in
-    let at = c .before .before .before .before .before .before .before .before .before .before .before in
-    c .before .before .before .before .before .before .commit10 .ensures ∙ carried-as (a .r) (a .d) Fill (at .enum-told10 .given .1) m (c .before .before .before .before .before .before .before .before .before .before .fills .ensures) refl
+    at-commit10 .commit10 .ensures ∙ carried-as (a .r) (a .d) Fill (at-enum-told10 .enum-told10 .given .1) m (at-fills .fills .ensures) refl
 
 returns-11 : tie.Need-returns-11
 returns-11 c =
-    let a = c .before .before .before .before .before .args in
+    let start = c .before .before .before .before .before in
+    let a = start .args in
     carried-refused (a .r) (a .d) TooFewValues (c .enum-told11 .given .1) (memory (a .bits .now) (a .tags .now) (a .history .now)) refusal.TooFewValues refl
 
 returns-12 : tie.Need-returns-12
 returns-12 c =
-    let a = c .before .before .before .before .before .args in
+    let start = c .before .before .before .before .before in
+    let a = start .args in
     carried-refused (a .r) (a .d) WrongTag (c .enum-told12 .given .1) (memory (a .bits .now) (a .tags .now) (a .history .now)) refusal.WrongTag refl
 
 returns-13 : tie.Need-returns-13
 returns-13 c =
-    let a = c .before .before .before .before .before .args in
+    let start = c .before .before .before .before .before in
+    let a = start .args in
     carried-refused (a .r) (a .d) NoResult (c .enum-told13 .given .1) (memory (a .bits .now) (a .tags .now) (a .history .now)) refusal.NoResult refl
 
 returns-14 : tie.Need-returns-14
 returns-14 c =
-    let a = c .before .before .before .before .before .args in
+    let start = c .before .before .before .before .before in
+    let a = start .args in
     carried-refused (a .r) (a .d) BadAddress (c .enum-told14 .given .1) (memory (a .bits .now) (a .tags .now) (a .history .now)) refusal.BadAddress refl
 
 returns-15 : tie.Need-returns-15
 returns-15 c =
-    let a = c .before .before .before .before .before .args in
+    let start = c .before .before .before .before .before in
+    let a = start .args in
     carried-refused (a .r) (a .d) StackFull (c .enum-told15 .given .1) (memory (a .bits .now) (a .tags .now) (a .history .now)) refusal.StackFull refl
 
 pub carry-spec : {M : Type 1} → statement M

@@ -17,7 +17,8 @@ enum-known-next-2 c = search needs
 
 put-requires : tie.Need-put-requires
 put-requires c κs =
-    let f = c .before .before .before .before .before .before .before .before .before .before .before .before .before .before .pre in
+    let start = c .before .before .before .before .before .before .before .before .before .before .before .before .before .before in
+    let f = start .pre in
     (f .tagged ∙ sym (f .cells), omega (arith, f .cells, f .block))
 
 same-length : tie.Need-same-length
@@ -31,8 +32,10 @@ same-length-3 c = search needs
 
 returns : tie.Need-returns
 returns c =
-    let a = c .before .before .before .before .before .before .before .before .before .before .before .before .args in
-    let kept = c .before .before .before .before .before .keep in
+    let at-keep = c .before .before .before .before .before in
+    let start = at-keep .before .before .before .before .before .before .before in
+    let a = start .args in
+    let kept = at-keep .keep in
     commit-refused (a .r) (a .e) (a .bits .now) (a .tags .now) (a .history .now) _ (kept .result) (c .before .next .given .0 .0) (c .before .next .given .1) (kept .ensures .0) (kept .ensures .1)
 
 same-length-4 : tie.Need-same-length-4
@@ -46,10 +49,13 @@ same-length-6 c = search needs
 
 returns-2 : tie.Need-returns-2
 returns-2 c =
-    let a = c .before .before .before .before .before .before .before .before .before .before .before .before .before .before .before .before .before .before .before .args in
-    let kept = c .before .before .before .before .before .before .before .before .before .before .before .before .keep in
+    let at-next2 = c .before .before .before .before .before .before .before .before in
+    let at-keep = at-next2 .before .before .before .before in
+    let start = at-keep .before .before .before .before .before .before .before in
+    let a = start .args in
+    let kept = at-keep .keep in
     let put = c .before .before .before .before .put .ensures in
-    commit-next (a .r) (a .e) (a .bits .now) (a .tags .now) (a .history .now) _ (kept .result) (c .before .before .before .before .before .before .before .before .next2 .given .0 .0) _ _ (c .before .before .before .before .before .before .before .before .next2 .given .1) (put .0) (put .1) (kept .ensures .0) (kept .ensures .1)
+    commit-next (a .r) (a .e) (a .bits .now) (a .tags .now) (a .history .now) _ (kept .result) (at-next2 .next2 .given .0 .0) _ _ (at-next2 .next2 .given .1) (put .0) (put .1) (kept .ensures .0) (kept .ensures .1)
 
 pub commit-spec : {M : Type 1} → statement M
 commit-spec =

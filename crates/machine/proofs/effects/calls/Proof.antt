@@ -13,17 +13,17 @@ cast-program-cell c = search needs
 program-cell-requires : tie.Need-program-cell-requires
 program-cell-requires c κs = search needs
 
-cast-of-one : tie.Need-cast-of-one
-cast-of-one c = search needs
+cast-writing-one : tie.Need-cast-writing-one
+cast-writing-one c = search needs
 
-add-of-one : tie.Need-add-of-one
-add-of-one c = search needs
+add-writing-one : tie.Need-add-writing-one
+add-writing-one c = search needs
 
-of-one-requires : tie.Need-of-one-requires
-of-one-requires c κs = search needs
+writing-one-requires : tie.Need-writing-one-requires
+writing-one-requires c κs = search needs
 
 returns : tie.Need-returns
-returns c = rw (c .of-one .ensures, c .before .before .before .program-cell .ensures) refl
+returns c = rw (c .writing-one .ensures, c .before .before .before .program-cell .ensures) refl
 
 pub calls-spec : {M : Type 1} → statement M
-calls-spec = tie.close (tie.spec add-next cast-program-cell program-cell-requires cast-of-one add-of-one of-one-requires returns)
+calls-spec = tie.close (tie.spec add-next cast-program-cell program-cell-requires cast-writing-one add-writing-one writing-one-requires returns)

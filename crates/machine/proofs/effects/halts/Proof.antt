@@ -4,11 +4,11 @@ use borrow.Author.Needs.{needs}
 use Rattle.machine.proofs.effects.halts.Statement.{statement}
 use Rattle.machine.proofs.effects.halts.Tie as tie
 
-of-none-requires : tie.Need-of-none-requires
-of-none-requires c κs = search needs
+writing-none-requires : tie.Need-writing-none-requires
+writing-none-requires c κs = search needs
 
 returns : tie.Need-returns
-returns c = rw (c .of-none .ensures) refl
+returns c = rw (c .writing-none .ensures) refl
 
 pub halts-spec : {M : Type 1} → statement M
-halts-spec = tie.close (tie.spec of-none-requires returns)
+halts-spec = tie.close (tie.spec writing-none-requires returns)

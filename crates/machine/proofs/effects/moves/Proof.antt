@@ -4,11 +4,11 @@ use borrow.Author.Needs.{needs}
 use Rattle.machine.proofs.effects.moves.Statement.{statement}
 use Rattle.machine.proofs.effects.moves.Tie as tie
 
-of-zeros-requires : tie.Need-of-zeros-requires
-of-zeros-requires c κs = search needs
+writing-zeros-requires : tie.Need-writing-zeros-requires
+writing-zeros-requires c κs = search needs
 
 returns : tie.Need-returns
-returns c = rw (c .of-zeros .ensures) refl
+returns c = rw (c .writing-zeros .ensures) refl
 
 pub moves-spec : {M : Type 1} → statement M
-moves-spec = tie.close (tie.spec of-zeros-requires returns)
+moves-spec = tie.close (tie.spec writing-zeros-requires returns)

@@ -4,17 +4,17 @@ use borrow.Author.Needs.{needs}
 use Rattle.machine.proofs.effects.results.Statement.{statement}
 use Rattle.machine.proofs.effects.results.Tie as tie
 
-add-of-one : tie.Need-add-of-one
-add-of-one c = search needs
+add-writing-one : tie.Need-add-writing-one
+add-writing-one c = search needs
 
-add-of-one-2 : tie.Need-add-of-one-2
-add-of-one-2 c = search needs
+add-writing-one-2 : tie.Need-add-writing-one-2
+add-writing-one-2 c = search needs
 
-of-one-requires : tie.Need-of-one-requires
-of-one-requires c κs = search needs
+writing-one-requires : tie.Need-writing-one-requires
+writing-one-requires c κs = search needs
 
 returns : tie.Need-returns
-returns c = rw (c .of-one .ensures) refl
+returns c = rw (c .writing-one .ensures) refl
 
 pub results-spec : {M : Type 1} → statement M
-results-spec = tie.close (tie.spec add-of-one add-of-one-2 of-one-requires returns)
+results-spec = tie.close (tie.spec add-writing-one add-writing-one-2 writing-one-requires returns)

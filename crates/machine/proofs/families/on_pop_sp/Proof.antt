@@ -28,7 +28,10 @@ moved-requires c κs = search needs
 
 returns-3 : tie.Need-returns-3
 unfolding planned
-returns-3 c m = rw (c .moved .ensures m, c .before .memory-address .ensures, le-leb _ _ (c .before .before .before .before .before .before .before .pre .1), c .before .before .before .before .before .if1 .left, sym (c .before .before .before .before .inside .ensures) ∙ not-false _ (c .before .before .before .if2 .left))
+returns-3 c m =
+    let at-if1 = c .before .before .before .before .before in
+    let start = at-if1 .before .before in
+    rw (c .moved .ensures m, c .before .memory-address .ensures, le-leb _ _ (start .pre .1), at-if1 .if1 .left, sym (c .before .before .before .before .inside .ensures) ∙ not-false _ (c .before .before .before .if2 .left))
 
 pub on-pop-sp-spec : {M : Type 1} → statement M
 on-pop-sp-spec = tie.close (tie.spec returns inside-requires returns-2 sub-moved memory-address-requires moved-requires returns-3)

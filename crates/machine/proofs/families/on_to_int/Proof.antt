@@ -28,7 +28,10 @@ result-requires c κs = search needs
 
 returns-3 : tie.Need-returns-3
 unfolding planned
-returns-3 c m = rw (c .result .ensures m, c .before .int-cell .ensures, c .before .before .cut .ensures, le-leb _ _ (c .before .before .before .before .before .before .before .pre .1), c .before .before .before .before .before .if1 .left, sym (c .before .before .before .before .has-int .ensures) ∙ not-false _ (c .before .before .before .if2 .left))
+returns-3 c m =
+    let at-if1 = c .before .before .before .before .before in
+    let start = at-if1 .before .before in
+    rw (c .result .ensures m, c .before .int-cell .ensures, c .before .before .cut .ensures, le-leb _ _ (start .pre .1), at-if1 .if1 .left, sym (c .before .before .before .before .has-int .ensures) ∙ not-false _ (c .before .before .before .if2 .left))
 
 pub on-to-int-spec : {M : Type 1} → statement M
 on-to-int-spec = tie.close (tie.spec returns has-int-requires returns-2 cut-requires int-cell-requires result-requires returns-3)

@@ -14,9 +14,8 @@ sub-t4 c = search needs
 returns : tie.Need-returns
 unfolding planned
 returns c m =
-    let start = c .before in
-    let r = start .args .r in
-    rw (lt-ltb (r .sp - 1) (r .n) (omega (arith, start .pre))) refl
+    let r = c .before .args .r in
+    rw (lt-ltb (r .sp - 1) (r .n) (omega (arith, c .before .pre))) refl
 
 pub framed-spec : {M : Type 1} → statement M
 framed-spec = tie.close (tie.spec sub-t4 returns)

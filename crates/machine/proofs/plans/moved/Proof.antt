@@ -10,10 +10,9 @@ use Rattle.machine.proofs.plans.moved.Tie as tie
 returns : tie.Need-returns
 unfolding planned
 returns c m =
-    let start = c .before .before in
-    let a = start .args in
+    let a = c .before .before .args in
     let none : a .a .0 - a .popped ≡ 0 = omega (arith, c .if1 .taken) in
-    rw (none, lt-ltb (a .a .0) (a .r .n) (omega (arith, c .if1 .taken, start .pre))) refl
+    rw (none, lt-ltb (a .a .0) (a .r .n) (omega (arith, c .if1 .taken, c .before .before .pre))) refl
 
 returns-2 : tie.Need-returns-2
 unfolding planned

@@ -14,9 +14,8 @@ sub-t5 c = search needs
 returns : tie.Need-returns
 unfolding planned
 returns c m =
-    let start = c .before in
-    let a = start .args in
-    rw (lt-ltb (a .r .sp - a .popped) (a .r .n) (omega (arith, start .pre))) refl
+    let a = c .before .args in
+    rw (lt-ltb (a .r .sp - a .popped) (a .r .n) (omega (arith, c .before .pre))) refl
 
 pub stored-spec : {M : Type 1} → statement M
 stored-spec = tie.close (tie.spec sub-t5 returns)

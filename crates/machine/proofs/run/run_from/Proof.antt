@@ -48,26 +48,38 @@ ended-requires-2 : tie.Need-ended-requires-2 Inv-loop μ-loop
 ended-requires-2 c κs = search needs
 
 same-length : tie.Need-same-length Inv-loop μ-loop
-same-length c = c .before .before .before .before .before .before .before .before .before .before .take-step .kept .1 .1 .1 .0 ∙ c .before .before .before .before .before .before .before .before .before .before .before .before .before .before .before .loop .inv .bits
+same-length c =
+    let at-take-step = c .before .before .before .before .before .before .before .before .before .before in
+    let at-loop = at-take-step .before .before .before .before .before in
+    at-take-step .take-step .kept .1 .1 .1 .0 ∙ at-loop .loop .inv .bits
 
 same-length-2 : tie.Need-same-length-2 Inv-loop μ-loop
-same-length-2 c = c .before .before .before .before .before .before .before .before .before .before .take-step .kept .1 .1 .1 .1 .0 ∙ c .before .before .before .before .before .before .before .before .before .before .before .before .before .before .before .loop .inv .tags
+same-length-2 c =
+    let at-take-step = c .before .before .before .before .before .before .before .before .before .before in
+    let at-loop = at-take-step .before .before .before .before .before in
+    at-take-step .take-step .kept .1 .1 .1 .1 .0 ∙ at-loop .loop .inv .tags
 
 same-length-3 : tie.Need-same-length-3 Inv-loop μ-loop
-same-length-3 c = c .before .before .before .before .before .before .before .before .before .before .take-step .kept .1 .1 .1 .1 .1 .0 ∙ c .before .before .before .before .before .before .before .before .before .before .before .before .before .before .before .loop .inv .history
+same-length-3 c =
+    let at-take-step = c .before .before .before .before .before .before .before .before .before .before in
+    let at-loop = at-take-step .before .before .before .before .before in
+    at-take-step .take-step .kept .1 .1 .1 .1 .1 .0 ∙ at-loop .loop .inv .history
 
 returns-2 : tie.Need-returns-2 Inv-loop μ-loop
 returns-2 c =
-    let start = c .before .before .before .before .before .before .before .before .before .before .before .before .before .before .before .before .before .before .before .before .before .before in
+    let at-take-step = c .before .before .before .before .before .before .before .before .before .before in
+    let at-loop-test = at-take-step .before .before .before .before in
+    let at-loop = at-loop-test .before in
+    let start = at-loop .before .before .before .before .before .before .before in
     let a = start .args in
     let p = program (a .table .now) (a .count) in
     let m₀ = memory (a .bits .now) (a .tags .now) (a .history .now) in
-    let l = c .before .before .before .before .before .before .before .before .before .before .before .before .before .before .before .loop in
+    let l = at-loop .loop in
     let m = memory (l .bits) (l .tags) (l .history) in
-    let taken = c .before .before .before .before .before .before .before .before .before .before .take-step in
+    let taken = at-take-step .take-step in
     let next = c .before .before .next .given in
     rw (c .ended2 .ensures)
-    (reached-refused p (a .limit) (a .r) m₀ (l .left) (l .at) m (l .inv) (c .before .before .before .before .before .before .before .before .before .before .before .before .before .before .loop-test .taken) _ _ _ (taken .result) (next .0 .0) (next .1) (taken .ensures), omega arith)
+    (reached-refused p (a .limit) (a .r) m₀ (l .left) (l .at) m (l .inv) (at-loop-test .loop-test .taken) _ _ _ (taken .result) (next .0 .0) (next .1) (taken .ensures), omega arith)
 
 enum-known-next-2 : tie.Need-enum-known-next-2 Inv-loop μ-loop
 enum-known-next-2 c = search needs
@@ -82,56 +94,74 @@ ended-requires-3 : tie.Need-ended-requires-3 Inv-loop μ-loop
 ended-requires-3 c κs = search needs
 
 same-length-4 : tie.Need-same-length-4 Inv-loop μ-loop
-same-length-4 c = c .before .before .before .before .before .before .before .before .before .before .before .before .take-step .kept .1 .1 .1 .0 ∙ c .before .before .before .before .before .before .before .before .before .before .before .before .before .before .before .before .before .loop .inv .bits
+same-length-4 c =
+    let at-take-step = c .before .before .before .before .before .before .before .before .before .before .before .before in
+    let at-loop = at-take-step .before .before .before .before .before in
+    at-take-step .take-step .kept .1 .1 .1 .0 ∙ at-loop .loop .inv .bits
 
 same-length-5 : tie.Need-same-length-5 Inv-loop μ-loop
-same-length-5 c = c .before .before .before .before .before .before .before .before .before .before .before .before .take-step .kept .1 .1 .1 .1 .0 ∙ c .before .before .before .before .before .before .before .before .before .before .before .before .before .before .before .before .before .loop .inv .tags
+same-length-5 c =
+    let at-take-step = c .before .before .before .before .before .before .before .before .before .before .before .before in
+    let at-loop = at-take-step .before .before .before .before .before in
+    at-take-step .take-step .kept .1 .1 .1 .1 .0 ∙ at-loop .loop .inv .tags
 
 same-length-6 : tie.Need-same-length-6 Inv-loop μ-loop
-same-length-6 c = c .before .before .before .before .before .before .before .before .before .before .before .before .take-step .kept .1 .1 .1 .1 .1 .0 ∙ c .before .before .before .before .before .before .before .before .before .before .before .before .before .before .before .before .before .loop .inv .history
+same-length-6 c =
+    let at-take-step = c .before .before .before .before .before .before .before .before .before .before .before .before in
+    let at-loop = at-take-step .before .before .before .before .before in
+    at-take-step .take-step .kept .1 .1 .1 .1 .1 .0 ∙ at-loop .loop .inv .history
 
 returns-3 : tie.Need-returns-3 Inv-loop μ-loop
 returns-3 c =
-    let start = c .before .before .before .before .before .before .before .before .before .before .before .before .before .before .before .before .before .before .before .before .before .before .before .before in
+    let at-take-step = c .before .before .before .before .before .before .before .before .before .before .before .before in
+    let at-loop-test = at-take-step .before .before .before .before in
+    let at-loop = at-loop-test .before in
+    let start = at-loop .before .before .before .before .before .before .before in
     let a = start .args in
     let p = program (a .table .now) (a .count) in
     let m₀ = memory (a .bits .now) (a .tags .now) (a .history .now) in
-    let l = c .before .before .before .before .before .before .before .before .before .before .before .before .before .before .before .before .before .loop in
+    let l = at-loop .loop in
     let m = memory (l .bits) (l .tags) (l .history) in
-    let taken = c .before .before .before .before .before .before .before .before .before .before .before .before .take-step in
+    let taken = at-take-step .take-step in
     let next = c .before .before .before .before .next2 .given in
     rw (c .ended3 .ensures)
-    (next-halted p (a .limit) (a .r) m₀ (l .left) (l .at) m (l .inv) (c .before .before .before .before .before .before .before .before .before .before .before .before .before .before .before .before .loop-test .taken) _ _ _ (taken .result) (next .0 .0) (next .1) (taken .ensures) (c .before .if2 .taken), omega arith)
+    (next-halted p (a .limit) (a .r) m₀ (l .left) (l .at) m (l .inv) (at-loop-test .loop-test .taken) _ _ _ (taken .result) (next .0 .0) (next .1) (taken .ensures) (c .before .if2 .taken), omega arith)
 
-of-sizes-requires : tie.Need-of-sizes-requires Inv-loop μ-loop
-of-sizes-requires c κs =
-    let start = c .before .before .before .before .before .before .before .before .before .before .before .before .before .before .before .before .before .before .before .before .before .before .before in
+with-sizes-requires : tie.Need-with-sizes-requires Inv-loop μ-loop
+with-sizes-requires c κs =
+    let at-take-step = c .before .before .before .before .before .before .before .before .before .before .before in
+    let at-loop-test = at-take-step .before .before .before .before in
+    let at-loop = at-loop-test .before in
+    let start = at-loop .before .before .before .before .before .before .before in
     let a = start .args in
     let p = program (a .table .now) (a .count) in
     let m₀ = memory (a .bits .now) (a .tags .now) (a .history .now) in
-    let l = c .before .before .before .before .before .before .before .before .before .before .before .before .before .before .before .before .loop in
+    let l = at-loop .loop in
     let m = memory (l .bits) (l .tags) (l .history) in
-    let taken = c .before .before .before .before .before .before .before .before .before .before .before .take-step in
+    let taken = at-take-step .take-step in
     let next = c .before .before .before .next2 .given in
     let kept = taken .kept .1 .1 .1 in
-    next-sizes p (a .limit) (a .r) m₀ (l .left) (l .at) m (l .inv) (c .before .before .before .before .before .before .before .before .before .before .before .before .before .before .before .loop-test .taken) _ _ _ (taken .result) (next .0 .0) (next .1) (taken .ensures) (kept .0) (kept .1 .0) (kept .1 .1 .0) (start .pre .0)
+    next-sizes p (a .limit) (a .r) m₀ (l .left) (l .at) m (l .inv) (at-loop-test .loop-test .taken) _ _ _ (taken .result) (next .0 .0) (next .1) (taken .ensures) (kept .0) (kept .1 .0) (kept .1 .1 .0) (start .pre .0)
 
 loop-less : tie.Need-loop-less Inv-loop μ-loop
 loop-less c = let low = c .before .before .before .before .before .before .before .before .before .before .before .before .before .before .before .before .loop-test .taken in omega (arith, low)
 
 loop-again : tie.Need-loop-again Inv-loop μ-loop
 loop-again c =
-    let start = c .before .before .before .before .before .before .before .before .before .before .before .before .before .before .before .before .before .before .before .before .before .before .before .before in
+    let at-take-step = c .before .before .before .before .before .before .before .before .before .before .before .before in
+    let at-loop-test = at-take-step .before .before .before .before in
+    let at-loop = at-loop-test .before in
+    let start = at-loop .before .before .before .before .before .before .before in
     let a = start .args in
     let p = program (a .table .now) (a .count) in
     let m₀ = memory (a .bits .now) (a .tags .now) (a .history .now) in
-    let l = c .before .before .before .before .before .before .before .before .before .before .before .before .before .before .before .before .before .loop in
+    let l = at-loop .loop in
     let m = memory (l .bits) (l .tags) (l .history) in
-    let taken = c .before .before .before .before .before .before .before .before .before .before .before .before .take-step in
+    let taken = at-take-step .take-step in
     let next = c .before .before .before .before .next2 .given in
     let kept = taken .kept .1 .1 .1 in
-    rw (c .of-sizes .ensures)
-    (reached-next p (a .limit) (a .r) m₀ (l .left) (l .at) m (l .inv) (c .before .before .before .before .before .before .before .before .before .before .before .before .before .before .before .before .loop-test .taken) _ _ _ (taken .result) (next .0 .0) (next .1) (taken .ensures) (kept .0) (kept .1 .0) (kept .1 .1 .0) (c .before .if2 .left))
+    rw (c .with-sizes .ensures)
+    (reached-next p (a .limit) (a .r) m₀ (l .left) (l .at) m (l .inv) (at-loop-test .loop-test .taken) _ _ _ (taken .result) (next .0 .0) (next .1) (taken .ensures) (kept .0) (kept .1 .0) (kept .1 .1 .0) (c .before .if2 .left))
 
 ended-requires-4 : tie.Need-ended-requires-4 Inv-loop μ-loop
 ended-requires-4 c κs = search needs
@@ -180,7 +210,7 @@ run-from-spec =
     same-length-5
     same-length-6
     returns-3
-    of-sizes-requires
+    with-sizes-requires
     loop-less
     loop-again
     ended-requires-4

@@ -43,12 +43,13 @@ decide-at-requires c κs =
 
 carry-requires : tie.Need-carry-requires
 carry-requires c κs =
-    let start = c .before .before .before .before .before .before .before .before .before .before .before .before in
+    let at-if1 = c .before .before .before .before .before .before .before in
+    let start = at-if1 .before .before .before .before .before in
     let a = start .args in
     let p = program (a .table .now) (a .count) in
     let m = memory (a .bits .now) (a .tags .now) (a .history .now) in (
       (small p (a .r) m (start .pre .0), live p (a .r) m (start .pre .0)),
-      λ e q. fits p (a .r) m (start .pre .0) (start .pre .1) (c .before .before .before .before .before .before .before .if1 .left) e (sym (c .before .before .before .decide-at .ensures) ∙ q),
+      λ e q. fits p (a .r) m (start .pre .0) (start .pre .1) (at-if1 .if1 .left) e (sym (c .before .before .before .decide-at .ensures) ∙ q),
     )
 
 same-length : tie.Need-same-length
@@ -62,12 +63,15 @@ same-length-3 c = search needs
 
 returns-2 : tie.Need-returns-2
 returns-2 c =
-    let start = c .before .before .before .before .before .before .before .before .before .before .before .before .before .before .before .before .before .before .before in
+    let at-carry = c .before .before .before .before .before .before in
+    let at-decide-at = at-carry .before .before .before .before in
+    let at-if1 = at-decide-at .before .before .before .before in
+    let start = at-if1 .before .before .before .before .before in
     let a = start .args in
     let m = memory (a .bits .now) (a .tags .now) (a .history .now) in
-    c .before .before .before .before .before .before .carry .ensures
-    ∙ ap (λ (z : Decision). carried (a .r) m (roomed (a .r) z)) (c .before .before .before .before .before .before .before .before .before .before .decide-at .ensures)
-    ∙ sym (step-carries (program (a .table .now) (a .count)) (a .r) m (start .pre .0) (start .pre .1) (c .before .before .before .before .before .before .before .before .before .before .before .before .before .before .if1 .left))
+    at-carry .carry .ensures
+    ∙ ap (λ (z : Decision). carried (a .r) m (roomed (a .r) z)) (at-decide-at .decide-at .ensures)
+    ∙ sym (step-carries (program (a .table .now) (a .count)) (a .r) m (start .pre .0) (start .pre .1) (at-if1 .if1 .left))
 
 pub take-step-spec : {M : Type 1} → statement M
 take-step-spec =
