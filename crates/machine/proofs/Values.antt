@@ -68,18 +68,21 @@ of-each P (k ∷ ks) h x q =
     (λ e. of-each P ks (and-right (P k) (all P ks) h) x (rw e at q))
 
 module _ (r : Registers) (m : Cells) (n : ℕ) (vb vt : Cell) where
+  too-few : (k : ℕ) (ks : List ℕ) → all (λ c. eqb (actionOf c .needs n) (suc k)) ks ≡ true → r .sp < suc k
+      → (c : ℕ) → among ks c ≡ true → onValues r m n vb vt (actionOf c) ≡ Refuses TooFewValues
+  too-few k ks need few c q =
+      rw (eqb-true (actionOf c .needs n) (suc k) (of-each (λ j. eqb (actionOf j .needs n) (suc k)) ks need c q), lt-leb (suc k) (r .sp) few) refl
+
   singles-need : all (λ c. eqb (actionOf c .needs n) 1) singles ≡ true
   unfolding all actionOf rowOf rows
   singles-need = refl
+
+  pub single-few : r .sp < 1 → (c : ℕ) → among singles c ≡ true → onValues r m n vb vt (actionOf c) ≡ Refuses TooFewValues
+  single-few = too-few 0 singles singles-need
 
   pairs-need : all (λ c. eqb (actionOf c .needs n) 2) pairs ≡ true
   unfolding all actionOf rowOf rows
   pairs-need = refl
 
-  pub single-few : r .sp < 1 → (c : ℕ) → among singles c ≡ true → onValues r m n vb vt (actionOf c) ≡ Refuses TooFewValues
-  single-few few c q =
-      rw (eqb-true (actionOf c .needs n) 1 (of-each (λ k. eqb (actionOf k .needs n) 1) singles singles-need c q), lt-leb 1 (r .sp) few) refl
-
   pub pair-few : r .sp < 2 → (c : ℕ) → among pairs c ≡ true → onValues r m n vb vt (actionOf c) ≡ Refuses TooFewValues
-  pair-few few c q =
-      rw (eqb-true (actionOf c .needs n) 2 (of-each (λ k. eqb (actionOf k .needs n) 2) pairs pairs-need c q), lt-leb 2 (r .sp) few) refl
+  pair-few = too-few 1 pairs pairs-need

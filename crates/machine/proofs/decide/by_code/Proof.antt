@@ -25,152 +25,94 @@ pushed-requires-2 : tie.Need-pushed-requires-2
 pushed-requires-2 c κs = c .before .before .before .before .pre .0
 
 on-one-requires : tie.Need-on-one-requires
-on-one-requires c κs =
-    let start = c .before .before .before in
-    (start .pre .0, start .pre .1, refl)
+on-one-requires c κs = let p = c .before .before .before .pre in (p .0, p .1, refl)
 
 on-swap-requires : tie.Need-on-swap-requires
 on-swap-requires c κs = c .before .before .before .pre .0
 
 on-two-requires : tie.Need-on-two-requires
-on-two-requires c κs =
-    let start = c .before .before .before in
-    (start .pre .0, start .pre .1, refl)
+on-two-requires c κs = let p = c .before .before .before .pre in (p .0, p .1, refl)
 
 on-two-requires-2 : tie.Need-on-two-requires-2
-on-two-requires-2 c κs =
-    let start = c .before .before .before in
-    (start .pre .0, start .pre .1, refl)
+on-two-requires-2 c κs = let p = c .before .before .before .pre in (p .0, p .1, refl)
 
 on-two-requires-3 : tie.Need-on-two-requires-3
-on-two-requires-3 c κs =
-    let start = c .before .before .before in
-    (start .pre .0, start .pre .1, refl)
+on-two-requires-3 c κs = let p = c .before .before .before .pre in (p .0, p .1, refl)
 
 on-two-requires-4 : tie.Need-on-two-requires-4
-on-two-requires-4 c κs =
-    let start = c .before .before .before in
-    (start .pre .0, start .pre .1, refl)
+on-two-requires-4 c κs = let p = c .before .before .before .pre in (p .0, p .1, refl)
 
 on-two-requires-5 : tie.Need-on-two-requires-5
-on-two-requires-5 c κs =
-    let start = c .before .before .before in
-    (start .pre .0, start .pre .1, refl)
+on-two-requires-5 c κs = let p = c .before .before .before .pre in (p .0, p .1, refl)
 
 on-two-requires-6 : tie.Need-on-two-requires-6
-on-two-requires-6 c κs =
-    let start = c .before .before .before in
-    (start .pre .0, start .pre .1, refl)
+on-two-requires-6 c κs = let p = c .before .before .before .pre in (p .0, p .1, refl)
 
 on-two-requires-7 : tie.Need-on-two-requires-7
-on-two-requires-7 c κs =
-    let start = c .before .before .before in
-    (start .pre .0, start .pre .1, refl)
+on-two-requires-7 c κs = let p = c .before .before .before .pre in (p .0, p .1, refl)
 
 on-two-requires-8 : tie.Need-on-two-requires-8
-on-two-requires-8 c κs =
-    let start = c .before .before .before in
-    (start .pre .0, start .pre .1, refl)
+on-two-requires-8 c κs = let p = c .before .before .before .pre in (p .0, p .1, refl)
 
 on-two-requires-9 : tie.Need-on-two-requires-9
-on-two-requires-9 c κs =
-    let start = c .before .before .before in
-    (start .pre .0, start .pre .1, refl)
+on-two-requires-9 c κs = let p = c .before .before .before .pre in (p .0, p .1, refl)
 
 on-two-requires-10 : tie.Need-on-two-requires-10
-on-two-requires-10 c κs =
-    let start = c .before .before .before in
-    (start .pre .0, start .pre .1, refl)
+on-two-requires-10 c κs = let p = c .before .before .before .pre in (p .0, p .1, refl)
 
 on-two-requires-11 : tie.Need-on-two-requires-11
-on-two-requires-11 c κs =
-    let start = c .before .before .before in
-    (start .pre .0, start .pre .1, refl)
+on-two-requires-11 c κs = let p = c .before .before .before .pre in (p .0, p .1, refl)
 
 on-two-requires-12 : tie.Need-on-two-requires-12
-on-two-requires-12 c κs =
-    let start = c .before .before .before in
-    (start .pre .0, start .pre .1, refl)
+on-two-requires-12 c κs = let p = c .before .before .before .pre in (p .0, p .1, refl)
 
 on-two-requires-13 : tie.Need-on-two-requires-13
-on-two-requires-13 c κs =
-    let start = c .before .before .before in
-    (start .pre .0, start .pre .1, refl)
+on-two-requires-13 c κs = let p = c .before .before .before .pre in (p .0, p .1, refl)
 
 on-one-requires-2 : tie.Need-on-one-requires-2
-on-one-requires-2 c κs =
-    let start = c .before .before .before in
-    (start .pre .0, start .pre .1, refl)
+on-one-requires-2 c κs = let p = c .before .before .before .pre in (p .0, p .1, refl)
 
 on-two-requires-14 : tie.Need-on-two-requires-14
-on-two-requires-14 c κs =
-    let start = c .before .before .before in
-    (start .pre .0, start .pre .1, refl)
+on-two-requires-14 c κs = let p = c .before .before .before .pre in (p .0, p .1, refl)
 
 on-two-requires-15 : tie.Need-on-two-requires-15
-on-two-requires-15 c κs =
-    let start = c .before .before .before in
-    (start .pre .0, start .pre .1, refl)
+on-two-requires-15 c κs = let p = c .before .before .before .pre in (p .0, p .1, refl)
 
 on-two-requires-16 : tie.Need-on-two-requires-16
-on-two-requires-16 c κs =
-    let start = c .before .before .before in
-    (start .pre .0, start .pre .1, refl)
+on-two-requires-16 c κs = let p = c .before .before .before .pre in (p .0, p .1, refl)
 
 on-two-requires-17 : tie.Need-on-two-requires-17
-on-two-requires-17 c κs =
-    let start = c .before .before .before in
-    (start .pre .0, start .pre .1, refl)
+on-two-requires-17 c κs = let p = c .before .before .before .pre in (p .0, p .1, refl)
 
 on-two-requires-18 : tie.Need-on-two-requires-18
-on-two-requires-18 c κs =
-    let start = c .before .before .before in
-    (start .pre .0, start .pre .1, refl)
+on-two-requires-18 c κs = let p = c .before .before .before .pre in (p .0, p .1, refl)
 
 on-one-requires-3 : tie.Need-on-one-requires-3
-on-one-requires-3 c κs =
-    let start = c .before .before .before in
-    (start .pre .0, start .pre .1, refl)
+on-one-requires-3 c κs = let p = c .before .before .before .pre in (p .0, p .1, refl)
 
 on-two-requires-19 : tie.Need-on-two-requires-19
-on-two-requires-19 c κs =
-    let start = c .before .before .before in
-    (start .pre .0, start .pre .1, refl)
+on-two-requires-19 c κs = let p = c .before .before .before .pre in (p .0, p .1, refl)
 
 on-two-requires-20 : tie.Need-on-two-requires-20
-on-two-requires-20 c κs =
-    let start = c .before .before .before in
-    (start .pre .0, start .pre .1, refl)
+on-two-requires-20 c κs = let p = c .before .before .before .pre in (p .0, p .1, refl)
 
 on-two-requires-21 : tie.Need-on-two-requires-21
-on-two-requires-21 c κs =
-    let start = c .before .before .before in
-    (start .pre .0, start .pre .1, refl)
+on-two-requires-21 c κs = let p = c .before .before .before .pre in (p .0, p .1, refl)
 
 on-two-requires-22 : tie.Need-on-two-requires-22
-on-two-requires-22 c κs =
-    let start = c .before .before .before in
-    (start .pre .0, start .pre .1, refl)
+on-two-requires-22 c κs = let p = c .before .before .before .pre in (p .0, p .1, refl)
 
 on-two-requires-23 : tie.Need-on-two-requires-23
-on-two-requires-23 c κs =
-    let start = c .before .before .before in
-    (start .pre .0, start .pre .1, refl)
+on-two-requires-23 c κs = let p = c .before .before .before .pre in (p .0, p .1, refl)
 
 on-one-requires-4 : tie.Need-on-one-requires-4
-on-one-requires-4 c κs =
-    let start = c .before .before .before in
-    (start .pre .0, start .pre .1, refl)
+on-one-requires-4 c κs = let p = c .before .before .before .pre in (p .0, p .1, refl)
 
 on-one-requires-5 : tie.Need-on-one-requires-5
-on-one-requires-5 c κs =
-    let start = c .before .before .before in
-    (start .pre .0, start .pre .1, refl)
+on-one-requires-5 c κs = let p = c .before .before .before .pre in (p .0, p .1, refl)
 
 on-one-requires-6 : tie.Need-on-one-requires-6
-on-one-requires-6 c κs =
-    let start = c .before .before .before in
-    (start .pre .0, start .pre .1, refl)
+on-one-requires-6 c κs = let p = c .before .before .before .pre in (p .0, p .1, refl)
 
 cast-memory-cell : tie.Need-cast-memory-cell
 cast-memory-cell c = omega (arith, c .before .before .before .before .pre .0)
@@ -182,9 +124,7 @@ pushed-requires-3 : tie.Need-pushed-requires-3
 pushed-requires-3 c κs = c .before .before .before .before .before .pre .0
 
 on-one-requires-7 : tie.Need-on-one-requires-7
-on-one-requires-7 c κs =
-    let start = c .before .before .before in
-    (start .pre .0, start .pre .1, refl)
+on-one-requires-7 c κs = let p = c .before .before .before .pre in (p .0, p .1, refl)
 
 cast-memory-cell-2 : tie.Need-cast-memory-cell-2
 cast-memory-cell-2 c = omega (arith, c .before .before .before .before .pre .0)
@@ -196,9 +136,7 @@ pushed-requires-4 : tie.Need-pushed-requires-4
 pushed-requires-4 c κs = c .before .before .before .before .before .pre .0
 
 on-one-requires-8 : tie.Need-on-one-requires-8
-on-one-requires-8 c κs =
-    let start = c .before .before .before in
-    (start .pre .0, start .pre .1, refl)
+on-one-requires-8 c κs = let p = c .before .before .before .pre in (p .0, p .1, refl)
 
 linked-requires : tie.Need-linked-requires
 linked-requires c κs = c .before .before .before .pre .0
@@ -207,19 +145,13 @@ on-add-sp-requires : tie.Need-on-add-sp-requires
 on-add-sp-requires c κs = c .before .before .before .pre .0
 
 on-one-requires-9 : tie.Need-on-one-requires-9
-on-one-requires-9 c κs =
-    let start = c .before .before .before in
-    (start .pre .0, start .pre .1, refl)
+on-one-requires-9 c κs = let p = c .before .before .before .pre in (p .0, p .1, refl)
 
 on-store-ind-requires : tie.Need-on-store-ind-requires
-on-store-ind-requires c κs =
-    let start = c .before .before .before in
-    (start .pre .0, start .pre .1)
+on-store-ind-requires c κs = let p = c .before .before .before .pre in (p .0, p .1)
 
 on-push-off-requires : tie.Need-on-push-off-requires
-on-push-off-requires c κs =
-    let start = c .before .before .before in
-    (start .pre .0, start .pre .1)
+on-push-off-requires c κs = let p = c .before .before .before .pre in (p .0, p .1)
 
 on-store-off-requires : tie.Need-on-store-off-requires
 on-store-off-requires c κs = c .before .before .before .pre .0
@@ -228,22 +160,16 @@ jumped-requires : tie.Need-jumped-requires
 jumped-requires c κs = (c .before .before .before .pre .0, zero-le)
 
 on-one-requires-10 : tie.Need-on-one-requires-10
-on-one-requires-10 c κs =
-    let start = c .before .before .before in
-    (start .pre .0, start .pre .1, refl)
+on-one-requires-10 c κs = let p = c .before .before .before .pre in (p .0, p .1, refl)
 
 on-one-requires-11 : tie.Need-on-one-requires-11
-on-one-requires-11 c κs =
-    let start = c .before .before .before in
-    (start .pre .0, start .pre .1, refl)
+on-one-requires-11 c κs = let p = c .before .before .before .pre in (p .0, p .1, refl)
 
 called-requires : tie.Need-called-requires
 called-requires c κs = (c .before .before .before .pre .0, zero-le)
 
 on-one-requires-12 : tie.Need-on-one-requires-12
-on-one-requires-12 c κs =
-    let start = c .before .before .before in
-    (start .pre .0, start .pre .1, refl)
+on-one-requires-12 c κs = let p = c .before .before .before .pre in (p .0, p .1, refl)
 
 program-cell-requires : tie.Need-program-cell-requires
 program-cell-requires c κs = tt
@@ -252,19 +178,13 @@ pushed-requires-5 : tie.Need-pushed-requires-5
 pushed-requires-5 c κs = c .before .before .before .before .pre .0
 
 on-one-requires-13 : tie.Need-on-one-requires-13
-on-one-requires-13 c κs =
-    let start = c .before .before .before in
-    (start .pre .0, start .pre .1, refl)
+on-one-requires-13 c κs = let p = c .before .before .before .pre in (p .0, p .1, refl)
 
 on-one-requires-14 : tie.Need-on-one-requires-14
-on-one-requires-14 c κs =
-    let start = c .before .before .before in
-    (start .pre .0, start .pre .1, refl)
+on-one-requires-14 c κs = let p = c .before .before .before .pre in (p .0, p .1, refl)
 
 on-two-requires-24 : tie.Need-on-two-requires-24
-on-two-requires-24 c κs =
-    let start = c .before .before .before in
-    (start .pre .0, start .pre .1, refl)
+on-two-requires-24 c κs = let p = c .before .before .before .pre in (p .0, p .1, refl)
 
 returns : tie.Need-returns
 unfolding decide actionOf rowOf rows
