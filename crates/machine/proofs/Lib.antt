@@ -3,6 +3,8 @@ pub mod Signed
 pub mod Reach
 pub mod Values
 pub mod Stages
+pub mod Commits
 pub mod Steps
 pub mod Carries
-pub mod Turns
+pub mod Running
+pub mod Once

@@ -30,7 +30,7 @@ none-among : (A : Type 0) (ks : List ℕ) (x : ℕ) → Without A ks x → among
 none-among A [] x r = refl
 none-among A (k ∷ ks) x r = rw (ne-eqb x k (beside (A × (x ≡ k → ⊥)) ks x r .1)) (none-among (A × (x ≡ k → ⊥)) ks x r)
 
--- so it is the one code that comes there and has none
+-- so it is the one code that comes there and has no arm
 the-first : (z : ℕ) (ks : List ℕ) (x : ℕ) → among (z ∷ ks) x ≡ true → Without (Unit {0}) ks x → x ≡ z
 the-first z ks x h r =
     by-test (eqb x z)

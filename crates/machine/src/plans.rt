@@ -1,7 +1,7 @@
 // Plans: what an instruction decides, 3 to 7 in order, as a few numbers that stay in the processor's registers until they are carried out. What a
 // plan means as a decision of the rules says specs/Plan.antt. Each maker below makes the plan of the effect that has its name in the rules.
 ghost use mathlib.Core.Path.{_≡_};
-ghost use Prim.Native.Nat.{_-_, _≤_, _<_};
+ghost use Prim.Native.Nat.{_-_, _≤_};
 ghost use Rattle.rules.specs.Cells.{Cells, cellAt};
 ghost use Rattle.rules.specs.Effects.{result, swapped, stored, moved, framed, linked, jumped, called, halted, programAddress};
 ghost use Rattle.rules.specs.declared.Decision.the-variants.{Does};

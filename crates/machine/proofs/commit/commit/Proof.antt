@@ -1,7 +1,7 @@
 -- `machine::commit::commit` meets its contract: refused as kept, or the history as kept and the cells as put. Assumes nothing.
 use mathlib.Core.Path.{sym, _∙_}
 use native.Mathlib.Omega.{arith}
-use Rattle.machine.proofs.Stages.{commit-refused, commit-next}
+use Rattle.machine.proofs.Commits.{commit-refused, commit-next}
 use borrow.Author.Needs.{needs}
 use Rattle.machine.proofs.commit.commit.Statement.{statement}
 use Rattle.machine.proofs.commit.commit.Tie as tie

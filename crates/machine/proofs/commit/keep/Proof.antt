@@ -6,7 +6,7 @@ use lib.ListN.{length}
 use Rattle.rules.specs.State.{memory}
 use Rattle.rules.specs.declared.Step.the-variants.{Next}
 use Rattle.machine.proofs.Blocks.{history-none, history-more}
-use Rattle.machine.proofs.Stages.{room-none, room-full, room-left, after-none, after-kept, with-room, without-room}
+use Rattle.machine.proofs.Commits.{room-none, room-full, room-left, after-none, after-kept, with-room, without-room}
 use borrow.Author.Needs.{needs}
 use Rattle.machine.proofs.commit.keep.Statement.{statement}
 use Rattle.machine.proofs.commit.keep.Tie as tie

@@ -4,7 +4,7 @@ use mathlib.Core.Path.{_∙_}
 use native.Mathlib.Omega.{arith}
 use Rattle.rules.specs.Table.{program}
 use Rattle.rules.specs.State.{memory}
-use Rattle.machine.proofs.Turns.{Reached, start-halted, reached-start, reached-limit, reached-refused, next-halted, next-sizes, reached-next}
+use Rattle.machine.proofs.Running.{Reached, start-halted, reached-start, reached-limit, reached-refused, next-halted, next-sizes, reached-next}
 use borrow.Author.Needs.{needs}
 use Rattle.machine.proofs.run.run_from.Statement.{statement}
 use Rattle.machine.proofs.run.run_from.Tie as tie

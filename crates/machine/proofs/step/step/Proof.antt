@@ -6,7 +6,7 @@ use Rattle.rules.specs.Table.{program}
 use Rattle.rules.specs.State.{memory}
 use Rattle.rules.specs.declared.MachineRefusal.the-variants.{AlreadyHalted}
 use Rattle.machine.proofs.Steps.{judged-halted, step-broken, step-refuses}
-use Rattle.machine.proofs.Turns.{once-answer}
+use Rattle.machine.proofs.Once.{once-answer}
 use borrow.Author.Needs.{needs}
 use Rattle.machine.proofs.step.step.Statement.{statement}
 use Rattle.machine.proofs.step.step.Tie as tie
