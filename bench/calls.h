@@ -13,9 +13,9 @@ typedef uint32_t writing_call(const uint64_t *, size_t, uint64_t, uint8_t *, siz
 
 /* Reset, step and step-back. */
 typedef uint32_t machine_call(const uint64_t *, size_t, uint64_t, uint64_t *, size_t, uint32_t *, size_t, uint8_t *,
-                              size_t, uint64_t *, size_t);
+                              size_t, uint64_t *, size_t, uint8_t *, size_t);
 
 typedef uint32_t run_call(const uint64_t *, size_t, uint64_t, uint64_t, uint64_t *, size_t, uint32_t *, size_t,
-                          uint8_t *, size_t, uint64_t *, size_t, uint64_t *, size_t);
+                          uint8_t *, size_t, uint64_t *, size_t, uint8_t *, size_t, uint64_t *, size_t);
 
 #endif

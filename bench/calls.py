@@ -4,10 +4,13 @@ A Script collects the lines and, for each line that makes a call, the answer lin
 """
 
 from collections import Counter
+from dataclasses import replace
 from itertools import groupby
 
 import sam
 from decimals import WELL_FORMED, marks
+from machines import copied
+from panel import is_before_writing, only_odd_cell, refusals_met, restored_by
 from sam.table import NAMES
 from sam.text import read_token, tokens
 
@@ -25,7 +28,7 @@ WRITERS = {
     "plain_unpack": (PLACES, 1),
     "plain_pack": (IMAGE_BYTES, 1),
 }
-COUNTED_REFUSALS = (5, 6)  # of which the instruction is counted
+COUNTED_REFUSALS = (5, 6, 12)  # of which the instruction is counted
 
 
 def marked(count, width):
@@ -52,10 +55,17 @@ def output_word(data):
     return f"{kept.hex()}+{len(data) - len(kept)}"
 
 
-def decimals_of(source):
-    """The decimals of a source that was assembled."""
+def operands_of(source, name):
+    """What stands behind this name in a source that was assembled."""
     words = [token.body.decode() for token in tokens(source)]
-    return [word for name, word in zip(words, words[1:]) if name == "PUSHIMMF" and WELL_FORMED.match(word)]
+    return [word for before, word in zip(words, words[1:]) if before == name]
+
+
+def refused_operand(source, place, name):
+    """What stands at this place of a source, where the name stands before it."""
+    if not source[:place].rstrip().endswith(name.encode()):
+        return []
+    return [source[place : read_token(source, place).end].decode()]
 
 
 class Script:
@@ -65,16 +75,25 @@ class Script:
         self.calls = Counter()
         self.fault_lines = Counter()  # (number, line) of assemble; 2 stands for every later line
         self.tests = Counter()  # (word, name, cells, number) of each instruction of TESTED (cases.py) made alone
-        self.refused_steps = Counter()  # (word, name, number, whether there is a history) of each 5 and 6
+        self.character_steps = Counter()  # (word, name, number) of each instruction made alone on characters alone
+        self.refused_steps = Counter()  # (word, name, number, whether there is a history) of each 5, 6 and 12
         self.codes = Counter()  # (word, code, number) of each image of one instruction
         self.decimals = Counter()  # marks of those assembled, and (number, operand) of PUSHIMMF's refused
+        self.characters = Counter()  # (number, operand) of PUSHIMMCH, assembled (0) and refused
+        self.packed_characters = Counter()  # (word, operand of PUSHIMMCH, number) of each table or image of one
         self.dwells = Counter()  # (HALT, whether SP is above 0, cell 0, number, tenths) of each dwell
         self.dwells_after = Counter()  # (word of the call before on that machine, number) of each dwell
         self.kept_numbers = Counter()  # (word of the call that left them, word, H, U, kept number, number) of each call
+        self.outputs = Counter()  # (word, length of the output, written count, number) of each call
+        self.odd_cells = Counter()  # (word, whether it is live, cell, number) where one cell has a CH or a higher tag
+        self.writes = Counter()  # (word, whether there is a history, refusals met, number) at each WRITECH
+        self.restored = Counter()  # (whether at a WRITECH, tags and bits restored, written, number) of each step-back
+        self.flipped_bits = Counter()  # (place of a record, bit, number) of each step-back with that bit another
+        self.written_moves = Counter()  # (word, whether there is a history, change of the written count) of each call
         self.taken_back = Counter()  # (whether there is a history, steps) of each series all taken back; 2 is for more
         self.wrong_tolds = Counter()  # (word, told's length, output's length, number of the input alone) of writers
-        self.register_lengths = Counter()  # (line, number with eight, length, number) of each with another length
-        self.resets = Counter()  # (length of the registers, cells, tags, history places, number) of each reset
+        self.register_lengths = Counter()  # (line, number with nine, length, number) of each with another length
+        self.resets = Counter()  # (length of the registers, cells, tags, history places, output, number) of each reset
 
     def say(self, line):
         self.lines.append((line, None))
@@ -105,17 +124,19 @@ class Script:
         if told_length == ASSEMBLE_TOLD:
             _, place, line, _ = told
             self.fault_lines[number, min(line, 2)] += 1
-            self.count_decimals(source, number, place)
+            self.count_operands(source, number, place)
         self.call_reading("assemble", source, table, told, number)
         return number, table, told
 
-    def count_decimals(self, source, number, place):
+    def count_operands(self, source, number, place):
         if number == 0 and b"." in source:
-            for decimal in decimals_of(source):
+            for decimal in filter(WELL_FORMED.match, operands_of(source, "PUSHIMMF")):
                 self.decimals.update(marks(decimal))
-        elif number in (25, 33) and source[:place].rstrip().endswith(b"PUSHIMMF"):
-            end = read_token(source, place).end
-            self.decimals[number, source[place:end].decode()] += 1
+        if number == 0 and b"PUSHIMMCH" in source:
+            self.characters.update((0, operand) for operand in operands_of(source, "PUSHIMMCH"))
+        if number in (25, 33):
+            for name, counter in (("PUSHIMMF", self.decimals), ("PUSHIMMCH", self.characters)):
+                counter.update((number, operand) for operand in refused_operand(source, place, name))
 
     def unpack(self, image, places=PLACES, told_length=1, word="unpack"):
         table = marked(places, 8)
@@ -150,7 +171,7 @@ class Script:
 def in_order(registers):
     """The registers as include/sam.h has them."""
     r = registers
-    return [r.n, r.h, r.pc, r.sp, r.fbr, r.halt, r.used, r.kept]
+    return [r.n, r.h, r.pc, r.sp, r.fbr, r.halt, r.used, r.kept, r.written]
 
 
 REGISTERS = len(in_order(sam.Registers()))
@@ -180,9 +201,10 @@ class LentMachine:
         self.script.say(f"bits {list_word(self.state.bits)}")
         self.script.say(f"tags {list_word(self.state.tags)}")
         self.script.say(f"history {list_word(self.state.history)}")
+        self.script.say(f"output {list_word(self.state.output)}")
 
     def count_refusal(self, word, number):
-        """At a 5 or 6 the PC is that of the refused instruction."""
+        """At a 5, 6 or 12 the PC is that of the refused instruction."""
         registers = self.state.registers
         name = NAMES[self.program.table[registers.pc] >> 32]
         self.script.refused_steps[word, name, number, registers.h > 0] += 1
@@ -199,6 +221,7 @@ class LentMachine:
         if number in COUNTED_REFUSALS:
             self.count_refusal(word, number)
         if self.registers_length == REGISTERS:
+            self.count_written(word)
             self.count_kept(word, number)
         if word != "dwell":
             self.last_word = word
@@ -212,13 +235,15 @@ class LentMachine:
                 ("bits", list_word(self.state.bits)),
                 ("tags", list_word(self.state.tags)),
                 ("history", list_word(self.state.history)),
+                ("output", list_word(self.state.output)),
             ],
         )
         return number
 
     def copy(self, registers):
-        state = self.state
-        return sam.State(list(state.bits), list(state.tags), list(state.history), registers)
+        state = copied(self.state)
+        state.registers = replace(registers)
+        return state
 
     def made(self, line, call):
         """(number, *told) of call(state). Registers of another length are a broken state, 10 in 10's place, and nothing
@@ -228,17 +253,38 @@ class LentMachine:
             return call(self.state)
         number, *told = call(self.copy(sam.Registers()))
         number = number or 10
-        with_eight, *_ = call(self.copy(self.state.registers))
-        self.script.register_lengths[line, with_eight, self.registers_length, number] += 1
+        with_nine, *_ = call(self.copy(self.state.registers))
+        self.script.register_lengths[line, with_nine, self.registers_length, number] += 1
         return number, *told
 
     def machine_call(self, line, call):
+        word = line.split(" ", 1)[0]
+        keys = self.keys_by_state(word) if self.registers_length == REGISTERS else []
         number, *told = self.made(line, call)
+        for counter, key in keys:
+            counter[(*key, number)] += 1
         return self.answer(line, number, told)
+
+    def keys_by_state(self, word):
+        """(Counter, key but for the number) of what request h speaks of, by the state that the call is given."""
+        script, state = self.script, self.state
+        keys = [(script.outputs, (word, len(state.output), state.registers.written))]
+        keys += [(script.odd_cells, (word, *cell)) for cell in only_odd_cell(state)]
+        if word == "back":
+            keys += [(script.restored, key) for key in restored_by(self.program, state)]
+        elif is_before_writing(self.program, state):
+            keys.append((script.writes, (word, state.registers.h > 0, refusals_met(state))))
+        return keys
+
+    def count_written(self, word):
+        """By how much the call changed the written count, if at all."""
+        change = self.state.registers.written - self.registers_before.written
+        if change:
+            self.script.written_moves[word, self.state.registers.h > 0, change] += 1
 
     def reset(self):
         number = self.machine_call("reset", lambda state: [sam.reset(self.program, state)])
-        sizes = len(self.state.bits), len(self.state.tags), len(self.state.history)
+        sizes = map(len, (self.state.bits, self.state.tags, self.state.history, self.state.output))
         self.script.resets[(self.registers_length, *sizes, number)] += 1
         return number
 

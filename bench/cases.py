@@ -1,21 +1,23 @@
 """The families of cases that compare.py draws from: each adds calls to a script."""
 
-from dataclasses import replace
 from itertools import chain, product
 
+import panel
 import sam
 from calls import ASSEMBLE_TOLD, IMAGE_BYTES, PLACES, REGISTERS, TEXT_BYTES, WRITERS, LentMachine
-from dwells import ADDRESS_CELLS, FLOAT_CELLS, INTEGER_CELLS, KINDS_OF_CELLS, PLAIN_CELLS, any_cell
+from dwells import ADDRESS_CELLS, CHARACTER_CELLS, FLOAT_CELLS, INTEGER_CELLS, KINDS_OF_CELLS, PLAIN_CELLS, any_cell
+from machines import copied, halted, single, stacked
 from programs import CONVERSIONS, FLOAT_EDGES, FTOI_EDGES, INTEGER_EDGES, ITOF_EDGES, SUMS, TWO_FLOATS, TWO_INTEGERS
-from programs import any_integer, any_operand, any_pattern, any_program
-from sam.actions import FLOAT, INT, MA, PA
+from programs import any_character, any_integer, any_operand, any_pattern, any_program
+from sam.actions import CH, FLOAT, INT, MA, PA
 from sam.image import CODE_WIDTH, COUNT_WIDTH, OPERAND_WIDTH
-from sam.machine import RUN_LIMIT, cell_place, cell_sound, step_place
-from sam.table import KINDS, NAMES, NO_OPERAND
+from sam.machine import OUTPUT_LIMIT, RUN_LIMIT, cell_place, cell_sound, step_place
+from sam.table import KINDS, LAST_CHARACTER, NAMES, NO_OPERAND, PATTERN
 from sources import any_source, corner_sources, every_refusal
 
 WORD = 1 << 32
 DOUBLE_WORD = 1 << 64
+TAGS = (INT, FLOAT, MA, PA, CH)
 OTHER_LENGTHS = [0, 1, REGISTERS - 2, REGISTERS - 1, REGISTERS + 1, 2 * REGISTERS]  # of lent registers
 
 
@@ -61,10 +63,10 @@ def list_again(script, table, length, size=TEXT_BYTES, told_length=1):
 
 
 def text_corners(script):
-    """Those with decimals are listed too: "Listings still write bits." """
+    """Those with decimals are listed too, "Listings still write bits.", and those with characters."""
     for source in corner_sources():
         number, table, told = script.assemble(source.encode("latin-1"))
-        if number == 0 and "." in source:
+        if number == 0 and ("." in source or "PUSHIMMCH" in source):
             list_again(script, table, told[0])
     assemble_tolds(script)
 
@@ -92,11 +94,12 @@ def made_program(chooser):
 def full_program(chooser):
     """1,024 places, each with the largest operand of its kind."""
     widest = [1 << 32 | 1 << 31, 2 << 32 | WORD - 1, 39 << 32 | WORD - 999, 42 << 32 | 999, 44 << 32 | 1024, 0]
+    widest.append(52 << 32 | LAST_CHARACTER)
     return sam.Program([chooser.choice(widest) for _ in range(PLACES)], PLACES)
 
 
 def any_place(chooser):
-    operand = chooser.choice([0, 1, 999, 1000, WORD - 999, WORD - 1000, chooser.randrange(WORD)])
+    operand = chooser.choice([0, 1, 127, 128, 999, 1000, WORD - 999, WORD - 1000, chooser.randrange(WORD)])
     return chooser.randrange(64) << 32 | operand
 
 
@@ -149,12 +152,17 @@ def there_and_back(chooser, script, program, pack="pack", unpack="unpack"):
         script.unpack(damaged_image(chooser, image), any_size(chooser, PLACES), any_told(chooser), unpack)
 
 
+def image_of(bits):
+    """These bits, as a string of 0 and 1, with zeros to a byte."""
+    bits += "0" * (-len(bits) % 8)
+    return int(bits, 2).to_bytes(len(bits) // 8, "big")
+
+
 def coded(code):
     """An image and a program of one instruction with this code, which may be too high, and zeros for its operand."""
     kind = KINDS[code] if code < len(KINDS) else NO_OPERAND
     bits = f"{1:0{COUNT_WIDTH}b}{code:0{CODE_WIDTH}b}" + "0" * OPERAND_WIDTH[kind]
-    bits += "0" * (-len(bits) % 8)
-    return int(bits, 2).to_bytes(len(bits) // 8, "big"), sam.Program([code << 32] + [0] * (PLACES - 1), 1)
+    return image_of(bits), sam.Program([code << 32] + [0] * (PLACES - 1), 1)
 
 
 def every_code(script, pack="pack", unpack="unpack"):
@@ -167,10 +175,25 @@ def every_code(script, pack="pack", unpack="unpack"):
         script.pack(program, word=pack)
 
 
+def every_character(script, pack="pack", unpack="unpack"):
+    """PUSHIMMCH's seven bits, behind nothing and behind a STOP, whole and cut; and operands that no image can have."""
+    for operand in panel.TABLE_OPERANDS:
+        written = f"{52:06b}{operand:07b}"
+        for image in (image_of(f"{1:011b}{written}"), image_of(f"{2:011b}{0:06b}{written}")):
+            for size in (len(image), len(image) - 1):
+                number, _, _ = script.unpack(image[:size], word=unpack)
+                script.packed_characters[unpack, operand, number] += 1
+    for operand in panel.TABLE_OPERANDS + panel.NO_TABLE_OPERANDS:
+        program = panel.table_of(operand)
+        script.program(program)
+        number = 0 if script.pack(program, word=pack) else 10
+        script.packed_characters[pack, operand, number] += 1
+
+
 # Images that are done, then those that are 41, 42, 43, 44 and 45.
 JUDGED_IMAGES = [
     bytes.fromhex(image)
-    for image in "0000 00408000000280 00 004080000002 FFE0 003F80 0033BE80 0001 0040800000028000".split()
+    for image in "0000 00408000000280 003A7F 00 004080000002 FFE0 003F80 0033BE80 0001 0040800000028000".split()
 ]
 
 
@@ -213,8 +236,10 @@ def image_corners(script):
     for corners in (unpack_tolds, pack_tolds, list_tolds):
         corners(script)
     every_code(script)
-    for code in range(1 << CODE_WIDTH):
-        _, program = coded(code)
+    every_character(script)
+    operands = panel.TABLE_OPERANDS + panel.NO_TABLE_OPERANDS
+    programs = [coded(code)[1] for code in range(1 << CODE_WIDTH)] + [panel.table_of(operand) for operand in operands]
+    for program in programs:
         script.program(program)
         script.list(program)
 
@@ -230,6 +255,12 @@ def image_case(chooser, script):
 # ---- series of calls
 
 
+def any_output(chooser):
+    """Any bytes; most often there is room for some characters."""
+    sizes = [0, 1, chooser.randrange(2, 8), chooser.randrange(8, OUTPUT_LIMIT), OUTPUT_LIMIT, OUTPUT_LIMIT]
+    return bytearray(chooser.randrange(256) for _ in range(chooser.choice(sizes)))
+
+
 def fresh_state(chooser):
     """Memory as it may be lent to a reset: any content."""
     n = chooser.choice([chooser.randrange(1, 8), chooser.randrange(8, 40), 16, chooser.choice([999, 1000])])
@@ -238,6 +269,7 @@ def fresh_state(chooser):
         bits=[chooser.randrange(WORD)] * n,
         tags=[chooser.randrange(256)] * n,
         history=[chooser.randrange(DOUBLE_WORD)] * h,
+        output=any_output(chooser),
         registers=sam.Registers(*[chooser.randrange(9) for _ in range(REGISTERS)]),
     )
 
@@ -261,11 +293,17 @@ def check_kept(state, net_steps):
     assert r.kept == (net_steps if r.h > 0 else 0), (r, net_steps)
 
 
+def check_output(state):
+    """Since the reset, what is not written is zero."""
+    assert not any(state.output[state.registers.written :]), state.output
+
+
 def take_all_back(script, lent):
-    """As many step-backs as the kept number says are accepted, and the next is refused."""
+    """As many step-backs as the kept number says are accepted, and the next is refused; no output is left."""
     kept, h = lent.state.registers.kept, lent.state.registers.h
     numbers = [lent.back() for _ in range(kept + 1)]
     assert numbers == [0] * kept + [9], numbers
+    assert h == 0 or lent.state.registers.written == 0, lent.state.registers
     script.taken_back[h > 0, min(kept, 2)] += 1
 
 
@@ -280,21 +318,25 @@ def series_case(chooser, script):
             lent.dwell()
         net_steps += series_call(chooser, lent)
         check_kept(lent.state, net_steps)
+        check_output(lent.state)
     lent.dwell()
     if chooser.randrange(4) == 0 and lent.state.registers.used <= 100:
         take_all_back(script, lent)
 
 
-# Cells, tags and history places of a reset: outside "Sizes" or of unequal count, and such as are allowed.
+# Cells, tags, history places and output of a reset: outside their sizes or of unequal count, and such as are allowed.
 REFUSED_SIZES = [
-    (0, 0, 0), (0, 0, 8), (1001, 1001, 0), (4, 3, 8), (4, 5, 8), (0, 4, 0), (4, 0, 0), (4, 4, 8193), (1001, 1000, 8193),
+    (0, 0, 0, 0), (0, 0, 8, 8), (1001, 1001, 0, 1), (4, 3, 8, 256), (4, 5, 8, 0), (0, 4, 0, 8), (4, 0, 0, 1),
+    (4, 4, 8193, 8), (1001, 1000, 8193, 256), (4, 4, 8, 257), (1, 1, 0, 257), (1000, 1000, 8192, 1000),
+    (1001, 1000, 8193, 257),
 ]  # fmt: skip
-ALLOWED_SIZES = [(1, 1, 0), (4, 4, 8), (1000, 1000, 8192)]
+ALLOWED_SIZES = [(1, 1, 0, 0), (4, 4, 8, 1), (4, 4, 0, 256), (1000, 1000, 8192, 256)]
 
 
-def marked_state(n, tags, h):
+def marked_state(n, tags, h, size):
     """Memory and registers in which every write of a reset is seen."""
-    return sam.State([7] * n, [8] * tags, [9] * h, sam.Registers(1, 2, 3, 4, 5, 6, 7, 8))
+    registers = sam.Registers(1, 2, 3, 4, 5, 6, 7, 8, 9)
+    return sam.State([7] * n, [8] * tags, [9] * h, bytearray(panel.filled(size)), registers)
 
 
 def reset_corners(script):
@@ -312,7 +354,9 @@ def reset_case(chooser, script):
     program = made_program(chooser)
     if chooser.randrange(2):
         program = damaged_program(chooser, program)
-    lent = LentMachine(script, program, marked_state(n, tags, h), chooser.choice([REGISTERS] * 8 + OTHER_LENGTHS))
+    size = chooser.choice([0, 1, 256, 257])
+    state = marked_state(n, tags, h, size)
+    lent = LentMachine(script, program, state, chooser.choice([REGISTERS] * 8 + OTHER_LENGTHS))
     lent.reset()
     lent.step()
 
@@ -352,14 +396,24 @@ def break_kept(chooser, program, state):
 
 def break_cells(chooser, program, state):
     at = chooser.randrange(len(state.bits))
-    state.tags[at] = chooser.choice([PA, PA, 4, 255, chooser.randrange(4)])
+    state.tags[at] = chooser.choice([PA, PA, CH, CH, CH + 1, 255, chooser.randrange(CH + 1)])
     if chooser.randrange(2):
         length = program.length
-        state.bits[at] = chooser.choice([length, length + 1, WORD - 1])
+        state.bits[at] = chooser.choice([length, length + 1, LAST_CHARACTER, LAST_CHARACTER + 1, WORD - 1])
+
+
+def break_output(chooser, program, state):
+    """Another written count, or another output: too long, or of any length, which may be below the count."""
+    sizes = [0, 1, OUTPUT_LIMIT, OUTPUT_LIMIT + 1, state.registers.written]
+    if chooser.randrange(2):
+        state.output[:] = panel.filled(chooser.choice(sizes))
+    if chooser.randrange(2):
+        size = len(state.output)
+        state.registers.written = chooser.choice([0, size, size + 1, size + 256, WORD + size, DOUBLE_WORD - 1])
 
 
 def break_slices(chooser, program, state):
-    lent = chooser.choice([state.bits, state.tags, state.history])
+    lent = chooser.choice([state.bits, state.tags, state.history, state.output])
     if chooser.randrange(2) and lent:
         lent.pop()
     else:
@@ -373,6 +427,14 @@ def break_record(chooser, program, state):
         state.history[at] ^= 1 << chooser.randrange(64)
 
 
+def any_restored(chooser, length):
+    """An old tag and old bits, most often such as a step may have recorded."""
+    tag = chooser.choice([*TAGS * 6, *range(CH + 1, 8)])
+    character = chooser.choice([0, LAST_CHARACTER, LAST_CHARACTER, any_character(chooser), LAST_CHARACTER + 1])
+    other = chooser.choice([0, length, length, length + 1, chooser.randrange(WORD)])
+    return tag, character if tag == CH else other
+
+
 def made_record(chooser, program, state):
     """A record made by hand, nearly well formed, that need not fit an instruction."""
     n, h = state.registers.n, state.registers.h
@@ -383,10 +445,10 @@ def made_record(chooser, program, state):
     if chooser.randrange(6) == 0:
         chooser.shuffle(addresses)
     length = program.length
-    bits = lambda: chooser.choice([0, length, length, length + 1, chooser.randrange(WORD)])
-    cells = [cell_place(address, chooser.randrange(4), bits()) for address in addresses]
+    cells = [cell_place(address, *any_restored(chooser, length)) for address in addresses]
+    writing = [pc for pc in range(length) if panel.holds_writing(program, pc)]
     last = step_place(
-        min(chooser.choice([0, max(length - 1, 0), max(length - 1, 0), length]), 2047),
+        min(chooser.choice([0, max(length - 1, 0), max(length - 1, 0), length, *writing[:4]]), 2047),
         chooser.choice([0, n - 1, n - 1, n]),
         chooser.choice([0, n - 1, n - 1, n]),
         chooser.choice([count] * 6 + [count + 1]),
@@ -398,7 +460,8 @@ def made_record(chooser, program, state):
 
 
 BREAKS = [
-    break_registers, break_registers, break_kept, break_cells, break_slices, break_record, made_record, made_record,
+    break_registers, break_registers, break_kept, break_cells, break_output, break_slices, break_record, made_record,
+    made_record,
 ]  # fmt: skip
 
 
@@ -474,10 +537,10 @@ def kept_corners(script):
 
 
 def length_corners(script):
-    """Each call with registers of another length, on a machine where eight would be done and on a broken one, by a tag
+    """Each call with registers of another length, on a machine where nine would be done and on a broken one, by a tag
     above SP. A dwell is done with HALT 1, the others with HALT 0."""
     program = single("JUMP 1")
-    for call, length, halt, tag in product(CALLS.values(), OTHER_LENGTHS, (0, 1), (INT, 4)):
+    for call, length, halt, tag in product(CALLS.values(), OTHER_LENGTHS, (0, 1), (INT, CH + 1)):
         state = counted_state(8, 1, 1, SHORT_RECORD, halt)
         state.tags[1] = tag
         call(LentMachine(script, program, state, length))
@@ -486,16 +549,80 @@ def length_corners(script):
 def run_corners(script):
     """Registers and told of any length, limits at the ends and beyond, sound and broken, by a tag above SP."""
     program, lengths, tolds = single("JUMP 1"), [*OTHER_LENGTHS, REGISTERS], [1, *other_tolds(1)]
-    for word, length, limit, told_length, tag in product(("run", "plain"), lengths, END_LIMITS, tolds, (INT, 4)):
+    for word, length, limit, told_length, tag in product(("run", "plain"), lengths, END_LIMITS, tolds, (INT, CH + 1)):
         state = halted((INT, 40), 8, halt=0)
         state.tags[1] = tag
         LentMachine(script, program, state, length).run(limit, told_length, word)
+
+
+# ---- the output, characters, and records at a WRITECH
+
+
+def each_call(script, program, state):
+    """Each call on a copy of this machine."""
+    for call in CALLS.values():
+        call(LentMachine(script, program, copied(state)))
+
+
+def output_corners(script):
+    """Outputs of every size with every written count, at an instruction that does not write, with HALT 0 and 1."""
+    outputs = panel.ALLOWED_OUTPUTS + panel.TOO_LONG + panel.BROKEN_OUTPUTS
+    for (size, written), halt in product(outputs, (0, 1)):
+        state = counted_state(8, 1, 1, SHORT_RECORD, halt)
+        state.output[:] = panel.filled(size)
+        state.registers.written = written
+        each_call(script, single("JUMP 1"), state)
+
+
+def cell_corners(script):
+    """Tags and characters at their ends, in a live cell and in a dead one; then as operands of a table."""
+    cells = panel.ALLOWED_CELLS + panel.BROKEN_CELLS
+    for cell, is_live, halt in product(cells, (True, False), (0, 1)):
+        each_call(script, single("JUMP 1"), panel.cell_machine(cell, is_live, halt))
+    for operand in panel.TABLE_OPERANDS + panel.NO_TABLE_OPERANDS:
+        each_call(script, panel.table_of(operand), stacked((INT, 40)))
+
+
+def record_corners(script):
+    """Step-backs of records made by hand at a WRITECH and elsewhere, and by a table that has it elsewhere; then with
+    each bit of a record another."""
+    for state in chain(panel.record_machines(), panel.restoring_machines()):
+        for program in (panel.WRITER, panel.LATE_WRITER):
+            LentMachine(script, program, copied(state)).back()
+    for place, bit, state in panel.flipped_machines():
+        number = LentMachine(script, panel.WRITER, state).back()
+        script.flipped_bits[place, bit, number] += 1
+
+
+def writing_corners(script):
+    """WRITECH before each of its refusals and where it is done, and what each call makes of what is left."""
+    for state in panel.writing_machines():
+        for word in ("step", "run", "plain"):
+            lent = LentMachine(script, panel.WRITER, copied(state))
+            for call in (CALLS[word], LentMachine.back, LentMachine.dwell, CALLS[word], LentMachine.back):
+                call(lent)
+
+
+def word_corners(script):
+    """A word of three characters by runs of every length, into outputs that hold it and that do not, and all that was
+    kept of it taken back."""
+    for word, h, size, limit in product(("run", "plain"), (0, 64), range(5), range(8)):
+        lent = LentMachine(script, panel.WORD_WRITER, marked_state(4, 4, h, size))
+        lent.reset()
+        lent.run(limit, word=word)
+        lent.run(9, word=word)
+        take_all_back(script, lent)
 
 
 def broken_corners(script):
     kept_corners(script)
     length_corners(script)
     run_corners(script)
+    output_corners(script)
+    cell_corners(script)
+    record_corners(script)
+    writing_corners(script)
+    word_corners(script)
 
 
 # ---- cell 0 of a halted machine
@@ -503,22 +630,15 @@ def broken_corners(script):
 JUNK = DOUBLE_WORD - 1  # no well-formed history place
 
 
-def halted(cell, h=0, **registers):
-    """This (tag, bits) as the only value of a machine with HALT 1, or with other registers."""
-    state = stacked(cell, h=h)
-    state.registers = replace(state.registers, **{"halt": 1, **registers})
-    return state
-
-
 def dwell_values(script, program):
     """Every cell there is a word for, with nothing else to refuse it."""
-    for cell in [*FLOAT_CELLS, *INTEGER_CELLS, *ADDRESS_CELLS]:
+    for cell in [*FLOAT_CELLS, *INTEGER_CELLS, *ADDRESS_CELLS, *CHARACTER_CELLS]:
         LentMachine(script, program, halted(cell)).dwell()
 
 
 def dwell_orders(script, program):
     """Every kind of cell with HALT 0 and 1 and SP 0 and 1, sound and broken, by a tag above SP."""
-    for cell, halt, sp, tag in product(KINDS_OF_CELLS, (0, 1), (0, 1), (INT, 4)):
+    for cell, halt, sp, tag in product(KINDS_OF_CELLS, (0, 1), (0, 1), (INT, CH + 1)):
         state = halted(cell, halt=halt, sp=sp)
         state.tags[1] = tag
         LentMachine(script, program, state).dwell()
@@ -578,8 +698,6 @@ def dwell_case(chooser, script):
 
 # ---- one instruction at a time
 
-TAGS = (INT, FLOAT, MA, PA)
-
 # Instructions that do another thing with another tag: how many values each takes, and the edges it is tried with.
 TESTED = {
     "EQUAL": (2, FLOAT_EDGES),
@@ -597,36 +715,25 @@ def any_bits(chooser, tag, n):
     if tag == MA:
         near = [0, 1, n - 1, n, WORD - 1, chooser.randrange(n), chooser.randrange(n)]
         return chooser.choice(near + [any_integer(chooser) % WORD] * 3)
+    if tag == CH:
+        return any_character(chooser)
     return chooser.randrange(3)
 
 
 def any_small_state(chooser):
     """A few cells, most of them of one tag."""
     n, h = chooser.randrange(1, 10), chooser.choice([0, 0, 1, 2, 3, 9])
-    tag = chooser.choice([INT, INT, FLOAT, MA, PA])
-    tags = [chooser.choice([tag, tag, tag, chooser.randrange(4)]) for _ in range(n)]
-    registers = sam.Registers(n, h, 0, chooser.choice([n - 1, chooser.randrange(n)]), chooser.randrange(n), 0, 0)
-    return sam.State([any_bits(chooser, tag, n) for tag in tags], tags, [0] * h, registers)
+    tag = chooser.choice([INT, INT, FLOAT, MA, PA, CH])
+    tags = [chooser.choice([tag, tag, tag, chooser.choice(TAGS)]) for _ in range(n)]
+    output = bytearray(chooser.randrange(256) for _ in range(chooser.randrange(4)))
+    registers = sam.Registers(n, h, sp=chooser.choice([n - 1, chooser.randrange(n)]), fbr=chooser.randrange(n))
+    registers.written = chooser.randrange(len(output) + 1)
+    return sam.State([any_bits(chooser, tag, n) for tag in tags], tags, [0] * h, output, registers)
 
 
 def step_number(program, state):
     """What a step would give."""
-    copy = sam.State(list(state.bits), list(state.tags), list(state.history), state.registers)
-    return sam.step(program, copy)
-
-
-def single(instruction):
-    """The program of this instruction alone."""
-    table = [0] * PLACES
-    number, length, *_ = sam.assemble((instruction + " STOP").encode(), table)
-    assert number == 0
-    return sam.Program(table, length)
-
-
-def stacked(*cells, h=2):
-    """These (tag, bits) on the stack, with room to record one result or with other room."""
-    tags, bits = map(list, zip(*cells, (INT, 0)))
-    return sam.State(bits, tags, [0] * h, sam.Registers(n=len(bits), h=h, sp=len(cells)))
+    return sam.step(program, copied(state))
 
 
 def edge_pairs():
@@ -661,8 +768,18 @@ def edge_conversions():
         yield program, stacked()
 
 
+def edge_characters():
+    """Every instruction on a stack of characters alone."""
+    for name, kind in zip(NAMES, KINDS):
+        operand = "" if kind == NO_OPERAND else " #00000000" if kind == PATTERN else " 0"
+        for h in (0, 3):
+            state = stacked((CH, 0), (CH, 1), (CH, LAST_CHARACTER), (CH, 1), h=h)
+            state.registers.sp = 3  # with room for one more
+            yield single(name + operand), state
+
+
 def edge_states():
-    return chain(edge_pairs(), edge_tests(), edge_addresses(), edge_conversions())
+    return chain(edge_pairs(), edge_tests(), edge_addresses(), edge_conversions(), edge_characters())
 
 
 def lend_single(script, word, program, state):
@@ -673,6 +790,8 @@ def lend_single(script, word, program, state):
         (count, _), sp = TESTED[name], state.registers.sp
         values = tuple(state.cells(max(sp - count, 0), sp))
         script.tests[word, name, values, step_number(program, state)] += 1
+    if set(state.tags[: state.registers.sp]) == {CH}:
+        script.character_steps[word, name, step_number(program, state)] += 1
     return LentMachine(script, program, state)
 
 
@@ -717,6 +836,7 @@ def plain_corners(script):
     unpack_tolds(script, "plain_unpack")
     pack_tolds(script, "plain_pack")
     every_code(script, "plain_pack", "plain_unpack")
+    every_character(script, "plain_pack", "plain_unpack")
     for program, state in edge_states():
         plain_single(script, program, state)
 

@@ -8,8 +8,9 @@ number of the documents was never given back, a fault of a source was never in a
 test of FLOATs that request b speaks of, a sum at the ends of 32 bits that request d speaks of or a conversion that
 request e speaks of was never made, a step or a run was never refused at such a sum or conversion, a kind of decimal or
 a code at the end of the codes was never read, a dwell that request f speaks of was never read or never refused, a kept
-number that request g speaks of was never given to a call or its steps never all taken back, or a told or registers of
-another length were never given to a call that would be done or refused besides.
+number that request g speaks of was never given to a call or its steps never all taken back, an output, a character, a
+record or a WRITECH that request h speaks of was never met, or a told or registers of another length were never given to
+a call that would be done or refused besides.
 """
 
 import argparse
@@ -20,6 +21,7 @@ import sys
 from collections import Counter
 from itertools import permutations, product
 
+import panel
 import sam
 from calls import REGISTERS, Script
 from cases import ALLOWED_KEPT, ALLOWED_SIZES, BROKEN_KEPT, CALLS, CORNERS, FAMILIES, OTHER_LENGTHS, REFUSED_SIZES
@@ -27,12 +29,13 @@ from cases import DOUBLE_WORD, other_tolds, wrong_tolds
 from decimals import ALL_MARKS, ILL_FORMED, TOO_LONG
 from dwells import KINDS_OF_CELLS, LONGEST, REFUSED_CELLS, SHORTEST, first_of
 from programs import CONVERSIONS, FTOI_ENDS, GREATEST, INFINITIES, INTEGER_TIES, LEAST, MINUS_ZERO, NANS, SUMS, ZEROS
-from sam.actions import FLOAT, INT, MA, PA
-from sam.machine import RUN_LIMIT
-from sam.table import WORD
+from programs import ONE_INTEGER, TWO_FLOATS, TWO_INTEGERS
+from sam.actions import CH, FLOAT, INT, MA, PA
+from sam.machine import OUTPUT_LIMIT, RUN_LIMIT
+from sam.table import LAST_CHARACTER, WORD
 from sources import any_source, every_refusal
 
-ALL_NUMBERS = [*range(0, 12), *range(21, 32), 33, *range(41, 46), 50, *range(60, 64)]
+ALL_NUMBERS = [*range(0, 13), *range(21, 32), 33, *range(41, 46), 50, *range(60, 64)]
 FAULTS = [*range(22, 31), 33]  # refusals of a source that have a line
 FLOAT_TESTS = [  # what request b changed
     *[("EQUAL", ((FLOAT, zero), (FLOAT, other)), 0) for zero, other in permutations(ZEROS)],
@@ -54,12 +57,12 @@ CONVERSION_TESTS = [  # what request e added: done, with no room for the record 
     *[("FTOI", ((FLOAT, bits),), 5) for bits in [*NANS, *INFINITIES, *[first for _, first in FTOI_ENDS]]],
     ("ITOF", ((INT, 1),), 8),
     *[("FTOI", ((FLOAT, last),), 8) for last, _ in FTOI_ENDS],
-    *[("ITOF", ((tag, 0),), 4) for tag in (FLOAT, MA, PA)],
-    *[("FTOI", ((tag, 0),), 4) for tag in (INT, MA, PA)],
+    *[("ITOF", ((tag, 0),), 4) for tag in (FLOAT, MA, PA, CH)],
+    *[("FTOI", ((tag, 0),), 4) for tag in (INT, MA, PA, CH)],
     *[(name, (), 3) for name in CONVERSIONS],
 ]
 DECIMALS = [*ALL_MARKS, *[(33, word) for word in ILL_FORMED], *[(25, word) for word in TOO_LONG]]
-LAST_CODES = [(49, 0), (50, 0), (51, 0), (52, 43), (63, 43)]
+LAST_CODES = [(49, 0), (50, 0), (51, 0), (52, 0), (53, 0), (54, 43), (63, 43)]
 HELD = [  # tag, end, and numbers or bits that are held there
     (INT, SHORTEST, (LEAST, -1, 0, SHORTEST - 1, SHORTEST)),
     (INT, LONGEST, (LONGEST, LONGEST + 1, GREATEST)),
@@ -82,6 +85,30 @@ INPUT_NUMBERS = {
     **dict.fromkeys(["list", "pack", "plain_pack"], [0, 10]),
     **dict.fromkeys(["unpack", "plain_unpack"], [0, *range(41, 46)]),
 }
+# What request h added: tests of characters, with each other and with other tags of the same bits.
+CHARACTER_TESTS = [
+    *[("EQUAL", ((CH, below), (CH, top)), 0) for below, top in product((0, 1), repeat=2)],
+    *[("EQUAL", pair, 0) for tag in (INT, FLOAT, MA, PA) for pair in permutations([(CH, 0), (tag, 0)])],
+    *[("ISNIL", ((CH, bits),), 0) for bits in (0, 1)],
+]
+# Instructions that are 4 on characters alone, and such as take them.
+NO_CHARACTERS = [
+    *TWO_INTEGERS, *TWO_FLOATS, "CMPF", *ONE_INTEGER, *CONVERSIONS, "POPSP", "POPFBR", "PUSHIND", "STOREIND", "JUMPC",
+    "JUMPIND", "JSRIND",
+]  # fmt: skip
+CHARACTERS_TAKEN = ["DUP", "SWAP", "EQUAL", "ISNIL", "PUSHOFF", "STOREOFF", "WRITECH"]
+# The numbers that operands of PUSHIMMCH are given.
+CHARACTER_OPERANDS = [
+    *[(0, word) for word in panel.TAKEN],
+    *[(25, word) for word in panel.OUT_OF_RANGE],
+    *[(33, word) for word in panel.WRONG_FORM],
+]
+# By how much a call changed the written count, with a history (True) and without; a run writes several characters.
+WRITTEN_MOVES = [
+    *product(("run", "plain"), (False, True), (1, 2, 3)),
+    *[("step", has_history, 1) for has_history in (False, True)],
+    ("back", True, -1),
+]
 TAKEN_BACK = [(False, 0), (True, 0), (True, 1), (True, 2)]  # whether there is a history, and steps; 2 is for more
 CUT = 400  # characters of a line that a difference shows
 
@@ -159,18 +186,28 @@ def compare_driver(command, script, path):
     return status == 0
 
 
-def compare_console(command, seed, count):
+def console_sources(seed, count):
+    """One for each refusal of a source, those that show something, and drawn ones."""
     chooser = random.Random(seed)
+    chosen = [*every_refusal(), *panel.SHOWN.values()]
+    return [source.encode() for source in chosen] + [any_source(chooser) for _ in range(count)]
+
+
+def compare_console(command, seed, count):
     endings = Counter()
-    sources = [source.encode() for source in every_refusal()] + [any_source(chooser) for _ in range(count)]
+    sources = console_sources(seed, count)
     for source in sources:
         expected = sam.console(source)
         answered = ask(command, source)[0].decode("latin-1")
         endings[expected.split(" ", 2)[0]] += 1
+        endings["out"] += "\nout " in expected
         if answered != expected:
             report("console", [repr(source)], expected, answered)
             return False
-    print(f"console: {len(sources)} sources alike, {endings['end']} run and {endings['refused']} refused")
+    print(
+        f"console: {len(sources)} sources alike, {endings['end']} run, {endings['out']} of them with output, and "
+        f"{endings['refused']} refused"
+    )
     return True
 
 
@@ -215,6 +252,69 @@ def kept_tests():
         yield "back", "dwell", *kept, 60
 
 
+def output_tests():
+    """(Call, length of the output, written count, number): 10 of every call but a reset, which is 11 where the output
+    is too long and reads no count; then done."""
+    for word in CALLS:
+        reset = word == "reset"
+        yield from ((word, *output, 11 if reset else 10) for output in panel.TOO_LONG)
+        yield from ((word, *output, 0 if reset else 10) for output in panel.BROKEN_OUTPUTS)
+        yield from ((word, *output, 0) for output in panel.ALLOWED_OUTPUTS)
+
+
+def cell_tests():
+    """(Call, whether it is live, cell, number), of the one cell with a CH or a higher tag."""
+    for word, is_live in product([word for word in CALLS if word not in ("reset", "back")], (False, True)):
+        yield from ((word, is_live, cell, 10) for cell in panel.BROKEN_CELLS)
+        if word != "dwell" or not is_live:  # a live one is cell 0
+            yield from ((word, is_live, cell, 0) for cell in panel.ALLOWED_CELLS)
+    yield from (("back", is_live, cell, 10) for cell in panel.BROKEN_CELLS for is_live in (False, True))
+
+
+def writing_tests():
+    """(Call, whether there is a history, refusals met, number) of a WRITECH: the first of them in their order. A run
+    that finds HALT 1 ends with 0."""
+    values_and_outputs = [(), (3,), (4,), (12,), (3, 12), (4, 12)]
+    meeting = [(False, met) for met in values_and_outputs]
+    meeting += [(True, (*met, *full)) for met, full in product(values_and_outputs, [(), (8,)])]
+    for word, (has_history, met) in product(("step", "run", "plain"), meeting):
+        yield word, has_history, met, met[0] if met else 0
+        yield word, has_history, (1, *met), 1 if word == "step" else 0
+
+
+def restored_tests():
+    """(Whether at a WRITECH, cells restored, written count, number) of a step-back."""
+    sizes = [0, 1, OUTPUT_LIMIT]
+    for cells in panel.RECORDED_CELLS:
+        restored = tuple((tag, bits) for _, tag, bits in cells)
+        yield from ((True, restored, written, 0 if written else 10) for written in sizes)
+        yield from ((False, restored, written, 0) for written in sizes)
+    for is_writing, cell in product((False, True), panel.ALLOWED_CELLS):
+        yield is_writing, (cell,), 1, 0
+    for is_writing, cell in product((False, True), panel.BROKEN_RESTORED):
+        yield is_writing, (cell,), 1, 10
+
+
+def flipped_tests():
+    """(Cell place 0 or step place 1, bit, number): the marks and the zeros are judged."""
+    return [(place, bit, 10) for place, bit in panel.JUDGED_BITS]
+
+
+def character_steps():
+    """(Call, name, number) on characters alone: 4 of an instruction that does not take them."""
+    for word in ("step", "plain"):
+        yield from ((word, name, 4) for name in NO_CHARACTERS)
+        yield from ((word, name, 0) for name in CHARACTERS_TAKEN)
+
+
+def packed_tests():
+    """(Call, operand of PUSHIMMCH, number): an image has no other, and 41 where one of its seven bits is not there."""
+    for pack, unpack in [("pack", "unpack"), ("plain_pack", "plain_unpack")]:
+        yield from ((pack, operand, 0) for operand in panel.TABLE_OPERANDS)
+        yield from ((pack, operand, 10) for operand in panel.NO_TABLE_OPERANDS)
+        yield from ((unpack, operand, number) for operand in panel.TABLE_OPERANDS for number in (0, 41))
+
+
 def told_tests():
     """(Writer, length of told, length of the output, number of the input alone): all that a wrong told comes before."""
     for word, numbers in INPUT_NUMBERS.items():
@@ -223,7 +323,7 @@ def told_tests():
 
 
 def run_tests(word, length):
-    """(Line, number with eight registers, length, number): 10 in its place behind 31 and 11."""
+    """(Line, number with nine registers, length, number): 10 in its place behind 31 and 11."""
     for limit, done in [(0, 50), (RUN_LIMIT, 0)]:
         yield f"{word} {limit} 1", done, length, 10
         yield f"{word} {limit} 1", 10, length, 10
@@ -246,7 +346,8 @@ def length_tests():
 
 
 def reset_tests():
-    """(Length of the registers; cells, tags and history places; number): 11 with any registers, then 10, then done."""
+    """(Length of the registers; cells, tags, history places and output; number): 11 with any registers, then 10, then
+    done."""
     for length in (*OTHER_LENGTHS, REGISTERS):
         yield from ((length, *sizes, 11) for sizes in REFUSED_SIZES)
         yield from ((length, *sizes, 10) for sizes in ALLOWED_SIZES)
@@ -256,11 +357,13 @@ def reset_tests():
 def all_met(script):
     """Whether the cases led to every number, to every fault of a source in its first line and in a later one, to every
     test of FLOATs, sum and conversion by the proved step and by the direct run, to sums and conversions refused with
-    and without a history, to every kind of decimal, to the last codes, to every dwell, to every kept number, and to a
-    told and registers of another length wherever they are refused."""
+    and without a history, to every kind of decimal, to the last codes, to every dwell, to every kept number, to every
+    output, character, record and WRITECH that request h speaks of, and to a told and registers of another length
+    wherever they are refused."""
     lines = product(FAULTS, (1, 2))
-    tests = [(word, *test) for word in ("step", "plain") for test in [*FLOAT_TESTS, *sum_tests(), *CONVERSION_TESTS]]
-    refused = [*[(name, 6) for name in SUMS], ("FTOI", 5)]
+    single_tests = [*FLOAT_TESTS, *sum_tests(), *CONVERSION_TESTS, *CHARACTER_TESTS]
+    tests = [(word, *test) for word in ("step", "plain") for test in single_tests]
+    refused = [*[(name, 6) for name in SUMS], ("FTOI", 5), ("WRITECH", 12)]
     steps = [(word, *of, h) for word, of, h in product(("step", "run", "plain"), refused, (False, True))]
     codes = [(word, *code) for word, code in product(("unpack", "plain_unpack"), LAST_CODES)]
     complete = [
@@ -273,10 +376,19 @@ def all_met(script):
         all_in(script.dwells, dwell_tests(), "dwells (HALT, any value, cell 0, number, tenths) never read or refused"),
         all_in(script.dwells_after, DWELLS_AFTER, "dwells never given back after such a call"),
         all_in(script.kept_numbers, kept_tests(), "kept numbers (left by, call, H, U, kept, number) never met"),
+        all_in(script.outputs, output_tests(), "outputs (call, length, written, number) never met"),
+        all_in(script.odd_cells, cell_tests(), "cells (call, live, cell, number) never met"),
+        all_in(script.writes, writing_tests(), "WRITECHs (call, any history, refusals met, number) never met"),
+        all_in(script.restored, restored_tests(), "step-backs (at a WRITECH, cells, written, number) never made"),
+        all_in(script.flipped_bits, flipped_tests(), "bits (0 cell place, 1 step place; bit, number) never another"),
+        all_in(script.character_steps, character_steps(), "instructions (call, name, number) never on characters"),
+        all_in(script.characters, CHARACTER_OPERANDS, "operands of PUSHIMMCH never assembled (0) or refused"),
+        all_in(script.packed_characters, packed_tests(), "PUSHIMMCH (call, operand, number) never packed or unpacked"),
+        all_in(script.written_moves, WRITTEN_MOVES, "written counts (call, any history, change) never changed so"),
         all_in(script.taken_back, TAKEN_BACK, "series (any history, steps; 2 for more) never taken back to the reset"),
         all_in(script.wrong_tolds, told_tests(), "writers (told's, output's length, number of input) never refused"),
-        all_in(script.register_lengths, length_tests(), "calls (number with eight, length, number) never refused"),
-        all_in(script.resets, reset_tests(), "resets (registers, cells, tags, history, number) never made"),
+        all_in(script.register_lengths, length_tests(), "calls (number with nine, length, number) never refused"),
+        all_in(script.resets, reset_tests(), "resets (registers, cells, tags, history, output, number) never made"),
     ]
     return all(complete)
 

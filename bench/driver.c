@@ -126,9 +126,9 @@ static void print_bytes(const char *name, const struct lent *lent) {
 
 /* ---- the calls */
 
-static struct lent source = {.width = 1}, output = {.width = 1}, told = {.width = 8};
+static struct lent source = {.width = 1}, written = {.width = 1}, told = {.width = 8};
 static struct lent table = {.width = 8}, registers = {.width = 8}, history = {.width = 8};
-static struct lent bits = {.width = 4}, tags = {.width = 1};
+static struct lent bits = {.width = 4}, tags = {.width = 1}, output = {.width = 1};
 static uint64_t length;
 
 static void print_end(void) {
@@ -153,12 +153,12 @@ static void call_reading(reading_call *call) {
 
 /* A table to bytes: list and pack. */
 static void call_writing(writing_call *call) {
-    lend(&output, read_number());
+    lend(&written, read_number());
     lend(&told, read_number());
-    printf("%" PRIu32, call(data(&table), table.count, length, data(&output), output.count, data(&told), told.count));
+    printf("%" PRIu32, call(data(&table), table.count, length, data(&written), written.count, data(&told), told.count));
     print_list("told", &told);
-    print_bytes("bytes", &output);
-    check_guards(&output, "output");
+    print_bytes("bytes", &written);
+    check_guards(&written, "written");
     print_end();
 }
 
@@ -169,31 +169,34 @@ static void print_machine(uint32_t number) {
     print_list("bits", &bits);
     print_list("tags", &tags);
     print_list("history", &history);
+    print_list("output", &output);
     check_guards(&registers, "registers");
     check_guards(&bits, "bits");
     check_guards(&tags, "tags");
     check_guards(&history, "history");
+    check_guards(&output, "output");
     print_end();
 }
 
 static void call_machine(machine_call *call) {
     lend(&told, 0);
     print_machine(call(data(&table), table.count, length, data(&registers), registers.count, data(&bits), bits.count,
-                       data(&tags), tags.count, data(&history), history.count));
+                       data(&tags), tags.count, data(&history), history.count, data(&output), output.count));
 }
 
 static void call_run(run_call *call) {
     uint64_t limit = read_number();
     lend(&told, read_number());
     print_machine(call(data(&table), table.count, length, limit, data(&registers), registers.count, data(&bits),
-                       bits.count, data(&tags), tags.count, data(&history), history.count, data(&told), told.count));
+                       bits.count, data(&tags), tags.count, data(&history), history.count, data(&output), output.count,
+                       data(&told), told.count));
 }
 
 static void call_dwell(void) {
     lend(&told, read_number());
     print_machine(sam_dwell(data(&table), table.count, length, data(&registers), registers.count, data(&bits),
-                            bits.count, data(&tags), tags.count, data(&history), history.count, data(&told),
-                            told.count));
+                            bits.count, data(&tags), tags.count, data(&history), history.count, data(&output),
+                            output.count, data(&told), told.count));
 }
 
 static void obey(const char *word) {
@@ -206,6 +209,7 @@ static void obey(const char *word) {
     else if (strcmp(word, "bits") == 0) read_list(&bits);
     else if (strcmp(word, "tags") == 0) read_list(&tags);
     else if (strcmp(word, "history") == 0) read_list(&history);
+    else if (strcmp(word, "output") == 0) read_list(&output);
     else if (strcmp(word, "reset") == 0) call_machine(sam_reset);
     else if (strcmp(word, "step") == 0) call_machine(sam_step);
     else if (strcmp(word, "back") == 0) call_machine(sam_step_back);
@@ -218,7 +222,7 @@ static void obey(const char *word) {
 }
 
 int main(void) {
-    struct lent *all[] = {&source, &output, &told, &table, &registers, &history, &bits, &tags};
+    struct lent *all[] = {&source, &written, &told, &table, &registers, &history, &bits, &tags, &output};
     for (size_t i = 0; i < sizeof all / sizeof all[0]; i++) lend(all[i], 0);
     char *line = NULL;
     size_t room = 0;

@@ -5,8 +5,8 @@ from itertools import product
 
 from programs import FLOAT_EDGES, FTOI_EDGES, INTEGER_EDGES, NANS, ZEROS, any_integer, any_pattern
 from sam import floats
-from sam.actions import FLOAT, INT, MA, PA
-from sam.table import WORD
+from sam.actions import CH, FLOAT, INT, MA, PA
+from sam.table import LAST_CHARACTER, WORD
 
 SHORTEST, LONGEST = 10, 300  # tenths of a dwell
 TENTHS = range(SHORTEST - 1, LONGEST + 2)  # 0.9 s to 30.1 s
@@ -37,14 +37,16 @@ BELOW_ZERO = [bits | floats.SIGN for tenths in TENTHS[::10] for bits in beside(t
 SIZES = [sign | exponent << 23 | end for sign, exponent, end in product(SIGNS, range(255), (0, 0x7FFFFF))]
 DWELL_INTEGERS = sorted({end + by for end in (SHORTEST, LONGEST, -SHORTEST, -LONGEST) for by in (-1, 0, 1)})
 
-# What is read, and what is refused by its tag. In a program of two instructions a PA of 3 is above the length, and 10.
+# What is read, and what is refused by its tag. In a program of two instructions a PA of 3 is above the length, and 10,
+# as a CH above 127 is in any.
 FLOAT_CELLS = [(FLOAT, bits) for bits in [*BESIDE_TENTHS, *BELOW_ZERO, *SIZES, *FTOI_EDGES]]
 INTEGER_CELLS = [(INT, number % WORD) for number in [*DWELL_INTEGERS, *INTEGER_EDGES, *FLOAT_EDGES]]
 ADDRESS_CELLS = [(MA, bits % WORD) for bits in [*FLOAT_EDGES, *DWELL_INTEGERS]] + [(PA, bits) for bits in range(4)]
+CHARACTER_CELLS = [(CH, bits) for bits in (0, 1, SHORTEST, 40, LAST_CHARACTER, LAST_CHARACTER + 1, LONGEST)]
 
 # One of each kind, to be read off machines of every kind: 4 s and 2.5 s, then 62, then 63.
 PLAIN_CELLS = [(INT, 40), (FLOAT, 0x40200000)]
-REFUSED_CELLS = [(MA, 0), (PA, 0), *[(MA, nan) for nan in NANS], *[(FLOAT, nan) for nan in NANS]]
+REFUSED_CELLS = [(MA, 0), (PA, 0), (CH, 0), (CH, 40), *[(MA, nan) for nan in NANS], *[(FLOAT, nan) for nan in NANS]]
 KINDS_OF_CELLS = PLAIN_CELLS + REFUSED_CELLS
 
 
@@ -66,5 +68,6 @@ def any_cell(chooser, length):
     if kind < 8:
         return INT, any_integer(chooser) % WORD
     if kind < 9:
-        return chooser.choice([(MA, any_pattern(chooser)), (PA, chooser.randrange(length + 1))])
+        address, character = chooser.randrange(length + 1), chooser.randrange(LAST_CHARACTER + 1)
+        return chooser.choice([(MA, any_pattern(chooser)), (PA, address), (CH, character)])
     return chooser.choice(REFUSED_CELLS)

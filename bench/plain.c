@@ -1,4 +1,4 @@
-/* A direct C interpreter of document 01 with requests b, d, e and g of document 02, as one would write it for
+/* A direct C interpreter of document 01 with requests b, d, e, g and h of document 02, as one would write it for
  * speed: soundness is judged once, then a loop over one switch whose cases test, record and write their cells
  * themselves. The proved run is measured against it. */
 #include "plain.h"
@@ -14,7 +14,8 @@ struct machine {
     uint32_t *bits;
     uint8_t *tags;
     uint64_t *history;
-    uint64_t length, n, h, pc, sp, fbr, halt, used, kept;
+    uint8_t *output;
+    uint64_t length, output_len, n, h, pc, sp, fbr, halt, used, kept, written;
 };
 
 struct cell { uint32_t bits; uint8_t tag; };
@@ -24,12 +25,13 @@ struct cell { uint32_t bits; uint8_t tag; };
 static bool registers_sound(const struct machine *m) {
     return m->n >= 1 && m->n <= SAM_CELL_LIMIT && m->h <= SAM_HISTORY_LIMIT && m->sp < m->n && m->fbr < m->n &&
            m->pc <= m->length && m->halt <= 1 && m->used <= m->h && m->kept <= m->used &&
-           (m->kept > 0 || m->used == 0);
+           (m->kept > 0 || m->used == 0) && m->output_len <= SAM_OUTPUT_LIMIT && m->written <= m->output_len;
 }
 
 static bool cells_sound(const struct machine *m) {
     for (uint64_t i = 0; i < m->n; i++) {
-        if (m->tags[i] > SAM_PA || (m->tags[i] == SAM_PA && m->bits[i] > m->length)) return false;
+        if (m->tags[i] <= SAM_MA) continue;
+        if (m->tags[i] > SAM_CH || m->bits[i] > (m->tags[i] == SAM_PA ? m->length : LAST_CHARACTER)) return false;
     }
     return true;
 }
@@ -86,7 +88,7 @@ static inline bool within_integers(float value) { return value >= -0x1p31f && va
 /* ---- history places */
 
 static inline uint64_t cell_place(uint64_t at, struct cell old) {
-    return at << 53 | (uint64_t)old.tag << 51 | (uint64_t)old.bits << 19;
+    return at << 53 | (uint64_t)old.tag << 50 | (uint64_t)old.bits << 18;
 }
 
 static inline uint64_t step_place(uint64_t pc, uint64_t sp, uint64_t fbr, uint64_t written) {
@@ -147,7 +149,7 @@ static inline uint64_t step_place(uint64_t pc, uint64_t sp, uint64_t fbr, uint64
     }
 
 /* Steps of a sound state: the number that ends them, and how many were made. A negative address or offset, taken as
- * unsigned, is above every SP and N. */
+ * unsigned, is above every SP and N. The output and its count stay in the machine: WRITECH alone has a use for them. */
 static uint32_t repeat(struct machine *m, uint64_t limit, uint64_t *made) {
     const uint64_t *const table = m->table;
     uint32_t *const bits = m->bits;
@@ -169,6 +171,7 @@ static uint32_t repeat(struct machine *m, uint64_t limit, uint64_t *made) {
         case PUSHIMM: PUSH(integer(operand)); break;
         case PUSHIMMF: PUSH(cell(operand, SAM_FLOAT)); break;
         case PUSHIMMPA: PUSH(program_address(operand)); break;
+        case PUSHIMMCH: PUSH(cell(operand, SAM_CH)); break;
         case DUP: ONE; PUSH(vt); break;
         case SWAP: TWO; KEEP(2, KEEP_CELL(sp - 2); KEEP_CELL(sp - 1)); SET(sp - 2, vt); SET(sp - 1, vb); break;
         case ADD: SUM(+, __builtin_add_overflow); break;
@@ -243,6 +246,12 @@ static uint32_t repeat(struct machine *m, uint64_t limit, uint64_t *made) {
             if (!within_integers(as_float(vt.bits))) END(5);
             RESULT_OF_ONE(integer((uint32_t)(int32_t)as_float(vt.bits)));
             break;
+        case WRITECH:
+            ONE_TAGGED(SAM_CH);
+            if (m->written == m->output_len) END(12);
+            POP;
+            m->output[m->written++] = (uint8_t)vt.bits;
+            break;
         default: END(10); /* no sound table has another code */
         }
         pc = next;
@@ -260,14 +269,15 @@ end:
 
 uint32_t plain_run(const uint64_t *table, size_t places, uint64_t length, uint64_t limit, uint64_t *registers,
                    size_t registers_len, uint32_t *bits, size_t n, uint8_t *tags, size_t tags_len, uint64_t *history,
-                   size_t h, uint64_t *told, size_t told_len) {
+                   size_t h, uint8_t *output, size_t output_len, uint64_t *told, size_t told_len) {
     if (told_len != 1) return 31;
     told[0] = 0;
     if (limit > SAM_RUN_LIMIT) return 11;
     if (registers_len != SAM_REGISTERS) return 10;
     struct machine m = {
-        table, bits, tags, history, length, registers[SAM_N], registers[SAM_H_PLACES], registers[SAM_PC],
-        registers[SAM_SP], registers[SAM_FBR], registers[SAM_HALT], registers[SAM_U], registers[SAM_KEPT],
+        table, bits, tags, history, output, length, output_len, registers[SAM_N], registers[SAM_H_PLACES],
+        registers[SAM_PC], registers[SAM_SP], registers[SAM_FBR], registers[SAM_HALT], registers[SAM_U],
+        registers[SAM_KEPT], registers[SAM_WRITTEN],
     };
     if (!table_sound(table, places, length) || m.n != n || m.n != tags_len || m.h != h) return 10;
     if (!registers_sound(&m) || !cells_sound(&m)) return 10;
@@ -279,6 +289,7 @@ uint32_t plain_run(const uint64_t *table, size_t places, uint64_t length, uint64
     registers[SAM_HALT] = m.halt;
     registers[SAM_U] = m.used;
     registers[SAM_KEPT] = m.kept;
+    registers[SAM_WRITTEN] = m.written;
     told[0] = steps;
     return number;
 }

@@ -1,12 +1,13 @@
-/* A direct C packer and unpacker of document 01, as one would write them for speed: bits gather in a word of 64, and
- * whole bytes leave or enter it. The proved ones are measured against them. */
+/* A direct C packer and unpacker of document 01 with requests e and h of document 02, as one would write them for
+ * speed: bits gather in a word of 64, and whole bytes leave or enter it. The proved ones are measured against them. */
 #include <string.h>
 
 #include "plain.h"
 #include "plain_table.h"
 #include "sam.h"
 
-enum { COUNT_WIDTH = 11, CODE_WIDTH = 6, WORD_WIDTH = 32, OFFSET_WIDTH = 11, OFFSET_SIGN = 1 << 10, TARGET_WIDTH = 11 };
+enum { COUNT_WIDTH = 11, CODE_WIDTH = 6 };
+enum { WORD_WIDTH = 32, OFFSET_WIDTH = 11, OFFSET_SIGN = 1 << 10, TARGET_WIDTH = 11, CHARACTER_WIDTH = 7 };
 
 static inline bool is_offset(uint64_t code) { return code == ADDSP || code == PUSHOFF || code == STOREOFF; }
 
@@ -15,6 +16,7 @@ static inline unsigned operand_width(uint64_t code) {
     case PUSHIMM: case PUSHIMMF: return WORD_WIDTH;
     case ADDSP: case PUSHOFF: case STOREOFF: return OFFSET_WIDTH;
     case JUMP: case JUMPC: case JSR: case PUSHIMMPA: return TARGET_WIDTH;
+    case PUSHIMMCH: return CHARACTER_WIDTH;
     default: return 0;
     }
 }

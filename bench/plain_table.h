@@ -12,8 +12,10 @@ enum code {
     STOP, PUSHIMM, PUSHIMMF, DUP, SWAP, ADD, SUB, TIMES, DIV, MOD, ADDF, SUBF, TIMESF, DIVF, AND, OR, NAND, NOR, XOR,
     NOT, BITAND, BITOR, BITNAND, BITNOR, BITXOR, BITNOT, CMP, CMPF, GREATER, LESS, EQUAL, ISNIL, ISPOS, ISNEG, PUSHSP,
     POPSP, PUSHFBR, POPFBR, LINK, ADDSP, PUSHIND, STOREIND, PUSHOFF, STOREOFF, JUMP, JUMPC, JUMPIND, JSR, JSRIND,
-    PUSHIMMPA, ITOF, FTOI, CODES
+    PUSHIMMPA, ITOF, FTOI, PUSHIMMCH, WRITECH, CODES
 };
+
+enum { LAST_CHARACTER = 127 };
 
 static inline bool operand_sound(uint64_t code, uint32_t operand, uint64_t length) {
     int32_t number = (int32_t)operand;
@@ -21,6 +23,7 @@ static inline bool operand_sound(uint64_t code, uint32_t operand, uint64_t lengt
     case PUSHIMM: case PUSHIMMF: return true;
     case ADDSP: case PUSHOFF: case STOREOFF: return number >= -999 && number <= 999;
     case JUMP: case JUMPC: case JSR: case PUSHIMMPA: return operand <= length;
+    case PUSHIMMCH: return operand <= LAST_CHARACTER;
     default: return operand == 0;
     }
 }

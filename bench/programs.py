@@ -5,8 +5,8 @@ level) and picks instructions that take them. At a small rate it puts in any ins
 """
 
 from decimals import any_decimal
-from sam.actions import FLOAT, INT, MA, PA
-from sam.table import INTEGER, KINDS, NAMES, OFFSET, PATTERN, TARGET
+from sam.actions import CH, FLOAT, INT, MA, PA
+from sam.table import CHARACTER, INTEGER, KINDS, LAST_CHARACTER, NAMES, OFFSET, PATTERN, TARGET
 
 LEAST, GREATEST = -(2**31), 2**31 - 1  # of an INT, and of an MA
 INTEGER_EDGES = [
@@ -46,6 +46,7 @@ FAR_TRIPS = [("ADD", "SUB", LEAST), ("ADD", "SUB", GREATEST), ("SUB", "ADD", GRE
 ONE_INTEGER = ["NOT", "BITNOT", "ISPOS", "ISNEG"]
 CONVERSIONS = ["ITOF", "FTOI"]
 TWO_FLOATS = ["ADDF", "SUBF", "TIMESF", "DIVF"]
+LONGEST_WORD = 5  # characters that a program shows at once
 
 
 def any_integer(chooser):
@@ -73,6 +74,10 @@ def any_float_operand(chooser):
     return any_decimal(chooser) if chooser.randrange(3) == 0 else f"#{any_pattern(chooser):08X}"
 
 
+def any_character(chooser):
+    return chooser.choice([0, LAST_CHARACTER, chooser.randrange(LAST_CHARACTER + 1)])
+
+
 def any_operand(chooser, kind, length):
     if kind == INTEGER:
         return f" {any_integer(chooser)}"
@@ -82,6 +87,8 @@ def any_operand(chooser, kind, length):
         return f" {chooser.choice([chooser.randrange(-3, 8), chooser.randrange(-999, 1000)])}"
     if kind == TARGET:
         return f" {chooser.randrange(length + 1)}"
+    if kind == CHARACTER:
+        return f" {any_character(chooser)}"
     return ""
 
 
@@ -115,7 +122,7 @@ class Builder:
 
     def push_something(self):
         chooser = self.chooser
-        kind = chooser.randrange(8)
+        kind = chooser.randrange(9)
         if kind < 3:
             self.put(f"PUSHIMM {any_integer(chooser)}")
             self.tags.append(INT)
@@ -125,6 +132,9 @@ class Builder:
         elif kind == 6:
             self.put(chooser.choice(["PUSHSP", "PUSHFBR"]))
             self.tags.append(MA)
+        elif kind == 7:
+            self.put(f"PUSHIMMCH {any_character(chooser)}")
+            self.tags.append(CH)
         else:
             self.put("PUSHIMMPA 0")
             self.tags.append(PA)
@@ -170,6 +180,20 @@ class Builder:
         is_back = chooser.randrange(2)
         self.put(start, there, *[back] * is_back)
         self.tags.append(tags[is_back])
+
+    def show(self):
+        """A short word, one character after the other or all from the stack, where the last was pushed first."""
+        word = [any_character(self.chooser) for _ in range(self.chooser.randrange(1, LONGEST_WORD + 1))]
+        if self.chooser.randrange(2):
+            for character in word:
+                self.put(f"PUSHIMMCH {character}", "WRITECH")
+        else:
+            self.put(*[f"PUSHIMMCH {character}" for character in reversed(word)], *["WRITECH"] * len(word))
+
+    def show_top(self):
+        if self.tags[-1] == CH:
+            self.put("WRITECH")
+            self.tags.pop()
 
     def swap(self):
         if len(self.tags) >= 2:
@@ -223,6 +247,8 @@ class Builder:
         for _ in range(self.chooser.randrange(1, 4)):
             self.put(f"PUSHIMM {any_integer(self.chooser)}", f"PUSHIMM {any_integer(self.chooser)}")
             self.put(self.chooser.choice(["BITXOR", "TIMES", "SUB", "EQUAL"]), "ADDSP -1")
+        if self.chooser.randrange(3) == 0:
+            self.show()
         self.put("PUSHIMM 1", "SUB", "DUP", f"JUMPC {label}")
         self.tags.append(INT)
 
@@ -255,11 +281,11 @@ class Builder:
         elif not self.tags:
             self.push_something()
         elif len(self.tags) >= self.DEEPEST:
-            chooser.choice([self.store_top, self.move_sp, self.work])()
+            chooser.choice([self.store_top, self.move_sp, self.work, self.show_top])()
         else:
             most = [self.push_something] * 6 + [self.work] * 10
             some = [self.swap, self.copy_up, self.store_top, self.move_sp, self.loop, self.branch, self.call]
-            chooser.choice(most + some + [self.convert, self.copy_by_far_address])()
+            chooser.choice(most + some + [self.convert, self.copy_by_far_address, self.show, self.show_top])()
 
     def source(self, pieces):
         """Often with a dwell at the bottom, where the door board reads it."""

@@ -3,6 +3,7 @@
 from itertools import product
 
 import decimals
+import panel
 from decimals import any_decimal, damaged_decimal
 from programs import any_program
 
@@ -10,7 +11,8 @@ GOOD_TOKENS = ["STOP", "ADD", "PUSHIMM 5", "PUSHIMM -2147483648", "PUSHIMMF #7fC
                "JUMP 0", "JUMP -0", "JUMPC a", "a:", "b:", "JSR b", "PUSHIMMPA end", "end:", "ADD:", "JUMP ADD",
                "//", "// any @ bytes\n", "\n", "\t", "\r", "JUMP 0000000001", "PUSHIMM 0000000001",
                "PUSHIMMF 2.5", "PUSHIMMF -0.0", "PUSHIMMF 16777217.1", "PUSHIMMF 0.3//0.3\n",
-               "ITOF", "FTOI", "ITOF:"]  # fmt: skip
+               "ITOF", "FTOI", "ITOF:",
+               "PUSHIMMCH 65", "PUSHIMMCH -0", "PUSHIMMCH 0000000127", "WRITECH", "WRITECH:"]  # fmt: skip
 ODD_TOKENS = ["FOO", "stop", "5", "-", "#", ":", "::", "_a", "a-b", "5:", "a::", "/", "a/b", "@", "\x00", "\xff",
               "PUSHIMM", "PUSHIMM x", "PUSHIMM 5:", "PUSHIMM 2147483648", "PUSHIMM 00000000001", "PUSHIMM -",
               "PUSHIMM - 5", "PUSHIMMF #123", "PUSHIMMF #1234567G", "PUSHIMMF 5", "ADDSP 1000", "STOREOFF -1000",
@@ -22,6 +24,8 @@ ODD_TOKENS = ["FOO", "stop", "5", "-", "#", ":", "::", "_a", "a-b", "5:", "a::",
               "PUSHIMMF .5", "PUSHIMMF 5.", "PUSHIMMF 2.5:", "PUSHIMMF 12345678.90", "PUSHIMMF 12345678.90:",
               "PUSHIMMF - 2.5", "PUSHIMMF 2 .5", "PUSHIMMF 2./5", "PUSHIMMF +2.5", "PUSHIMMF 2,5",
               "ITOF 5", "FTOI 2.5", "itof", "FTOI.",
+              "PUSHIMMCH", "PUSHIMMCH 128", "PUSHIMMCH -1", "PUSHIMMCH 00000000065", "PUSHIMMCH A", "PUSHIMMCH 65:",
+              "PUSHIMMCH 'A'", "PUSHIMMCH #41", "PUSHIMMCH 6.5", "WRITECH 65", "writech", "WRITECHS", "PUSHIMMC 65",
               "JUMP " + "x" * 32 + ".", "x" * 33 + ".:"]  # fmt: skip
 
 LINE_ENDS = ["\n", "\n", "\r\n", "\n\n", "\r\n \r\n", " // any @ bytes\n", "//\r\n", "\r\r\n"]
@@ -102,6 +106,13 @@ def decimal_corners():
         yield f"{before}PUSHIMMF {word}"
 
 
+def character_corners():
+    """What PUSHIMMCH takes and what it refuses, alone and behind other lines."""
+    words = panel.TAKEN + panel.OUT_OF_RANGE + panel.WRONG_FORM
+    for before, word in product(("", "STOP\n\t"), words):
+        yield f"{before}PUSHIMMCH {word}"
+
+
 def many_labels(count, gap):
     return "".join(f"l{i}:{gap}" for i in range(count))
 
@@ -114,6 +125,7 @@ def full_sources():
         yield "JUMP end " * count + "end:"
         yield "PUSHIMM -2147483648\n" * count
         yield "PUSHIMMF -99999999.9\n" * count
+        yield "PUSHIMMCH 127\n" * count
     for count, gap in product((255, 256, 257), (" ", "\n", "\r\n")):
         for tail in ("", "l7:", "x:", "l7: x:", "x" * 33 + ":"):
             yield many_labels(count, gap) + tail
@@ -141,6 +153,8 @@ def every_refusal():
     yield "STOP\nADD."
     yield "STOP\nPUSHIMMF 2."
     yield "STOP\nPUSHIMMF 12345678.90"
+    yield "STOP\nPUSHIMMCH\n A"
+    yield "STOP\nPUSHIMMCH\n128"
 
 
 def line_corners():
@@ -153,11 +167,12 @@ def line_corners():
 def corner_sources():
     """Every token there is a word for above: alone, behind another, and where an operand is due."""
     for token in GOOD_TOKENS + ODD_TOKENS:
-        for before in ("", "STOP ", "PUSHIMM ", "PUSHIMMF ", "ADDSP ", "JUMP ", "a:"):
+        for before in ("", "STOP ", "PUSHIMM ", "PUSHIMMF ", "PUSHIMMCH ", "ADDSP ", "JUMP ", "a:"):
             for after in ("", ":", " a:"):
                 yield before + token + after
     yield from line_corners()
     yield from decimal_corners()
+    yield from character_corners()
     yield from full_sources()
     yield from every_refusal()
 

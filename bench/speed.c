@@ -20,6 +20,7 @@ struct machine {
     uint32_t bits[CELLS];
     uint8_t tags[CELLS];
     uint64_t history[SAM_HISTORY_LIMIT];
+    uint8_t output[SAM_OUTPUT_LIMIT];
 };
 
 struct work {
@@ -65,7 +66,7 @@ static void assemble(const struct work *work) {
 
 static void reset(struct machine *m, size_t h) {
     if (sam_reset(table, SAM_TABLE_PLACES, length, m->registers, SAM_REGISTERS, m->bits, CELLS, m->tags, CELLS,
-                  m->history, h) != 0) {
+                  m->history, h, m->output, SAM_OUTPUT_LIMIT) != 0) {
         die("a reset was refused");
     }
 }
@@ -74,7 +75,7 @@ static void reset(struct machine *m, size_t h) {
 static uint64_t run(run_call *call, struct machine *m, size_t h, uint64_t limit, uint32_t number) {
     uint64_t told[1];
     if (call(table, SAM_TABLE_PLACES, length, limit, m->registers, SAM_REGISTERS, m->bits, CELLS, m->tags, CELLS,
-             m->history, h, told, 1) != number) {
+             m->history, h, m->output, SAM_OUTPUT_LIMIT, told, 1) != number) {
         die("a run ended otherwise than it should");
     }
     return told[0];

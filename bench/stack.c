@@ -20,7 +20,7 @@ static void die(const char *why) {
 
 /* ---- what is lent to the calls */
 
-enum { BLOCKS = SAM_TABLE_PLACES / 8, STEPS = 1000 };
+enum { PAIRS = SAM_TABLE_PLACES / 16, STEPS = 1000 };
 
 static char source[SAM_SOURCE_LIMIT];
 static size_t source_len, image_len;
@@ -28,7 +28,7 @@ static uint8_t text[SAM_TEXT_BYTES], image[SAM_IMAGE_BYTES];
 static uint64_t table[SAM_TABLE_PLACES], length, told[SAM_ASSEMBLE_TOLD];
 static uint64_t registers[SAM_REGISTERS], history[SAM_HISTORY_LIMIT];
 static uint32_t bits[SAM_CELL_LIMIT];
-static uint8_t tags[SAM_CELL_LIMIT];
+static uint8_t tags[SAM_CELL_LIMIT], output[SAM_OUTPUT_LIMIT];
 
 static uint32_t number; /* what the last call gave */
 
@@ -44,45 +44,49 @@ static void unpack(void) { number = sam_unpack(image, image_len, table, SAM_TABL
 
 static void reset(void) {
     number = sam_reset(table, SAM_TABLE_PLACES, length, registers, SAM_REGISTERS, bits, SAM_CELL_LIMIT, tags,
-                       SAM_CELL_LIMIT, history, SAM_HISTORY_LIMIT);
+                       SAM_CELL_LIMIT, history, SAM_HISTORY_LIMIT, output, SAM_OUTPUT_LIMIT);
 }
 
 static void step(void) {
     number = sam_step(table, SAM_TABLE_PLACES, length, registers, SAM_REGISTERS, bits, SAM_CELL_LIMIT, tags,
-                      SAM_CELL_LIMIT, history, SAM_HISTORY_LIMIT);
+                      SAM_CELL_LIMIT, history, SAM_HISTORY_LIMIT, output, SAM_OUTPUT_LIMIT);
 }
 
 static void step_back(void) {
     number = sam_step_back(table, SAM_TABLE_PLACES, length, registers, SAM_REGISTERS, bits, SAM_CELL_LIMIT, tags,
-                           SAM_CELL_LIMIT, history, SAM_HISTORY_LIMIT);
+                           SAM_CELL_LIMIT, history, SAM_HISTORY_LIMIT, output, SAM_OUTPUT_LIMIT);
 }
 
 static void run(void) {
     number = sam_run(table, SAM_TABLE_PLACES, length, STEPS, registers, SAM_REGISTERS, bits, SAM_CELL_LIMIT, tags,
-                     SAM_CELL_LIMIT, history, SAM_HISTORY_LIMIT, told, 1);
+                     SAM_CELL_LIMIT, history, SAM_HISTORY_LIMIT, output, SAM_OUTPUT_LIMIT, told, 1);
 }
 
 static void dwell(void) {
     number = sam_dwell(table, SAM_TABLE_PLACES, length, registers, SAM_REGISTERS, bits, SAM_CELL_LIMIT, tags,
-                       SAM_CELL_LIMIT, history, SAM_HISTORY_LIMIT, told, 1);
+                       SAM_CELL_LIMIT, history, SAM_HISTORY_LIMIT, output, SAM_OUTPUT_LIMIT, told, 1);
 }
 
-/* What request c forbids, to see that the measurement finds it. */
+/* A packer with a copy of the image, to see that the measurement finds it. */
 static void pack_by_a_copy(void) {
     uint8_t copy[SAM_IMAGE_BYTES];
     number = sam_pack(table, SAM_TABLE_PLACES, length, copy, sizeof copy, told, 1);
     memcpy(image, copy, sizeof copy);
 }
 
-/* All 256 labels, every form of operand, the longest number and decimal, both conversions; for ever in its first eight
- * instructions. */
+/* All 256 labels, every form of operand, the longest number and decimal, both conversions, a character; for ever in its
+ * first sixteen instructions, so that the output is not full after STEPS. */
 static void write_full_source(void) {
-    for (int i = 0; i < BLOCKS; i++) {
+    for (int i = 0; i < PAIRS; i++) {
         source_len += (size_t)sprintf(source + source_len,
                                       "a%d: PUSHIMM -2147483648 ITOF PUSHIMMF -99999999.9 JUMP b%d\n"
-                                      "b%d: FTOI PUSHIMMF #FFFFFFFF ADDSP -3 JUMP a%d\n", i, i, i, i);
+                                      "b%d: FTOI PUSHIMMF #FFFFFFFF ADDSP -3 JUMP c%d\n"
+                                      "c%d: PUSHIMMCH 127 WRITECH PUSHIMMF 2.5 JUMP d%d\n"
+                                      "d%d: FTOI PUSHIMMF #00000000 ADDSP -2 JUMP a%d\n", i, i, i, i, i, i, i, i);
     }
 }
+
+enum { TO_ITOF = 1, TO_WRITECH = 9 }; /* steps before these */
 
 /* Cell 0 of a halted machine: 40 tenths, 2.5 seconds, the least FLOAT and the greatest. */
 static const struct cell {
@@ -97,8 +101,18 @@ static void halt_at(const struct cell *cell) {
     bits[0] = cell->value;
 }
 
-/* A program, its image, and a machine that has made a step if there is one to make, or is halted at a cell. */
-static void prepare(bool is_full, const struct cell *cell) {
+/* What a call is measured with. */
+struct row {
+    const char *name;
+    void (*call)(void);
+    int steps;               /* that the machine has made before, where there are some to make */
+    const struct cell *cell; /* where the machine is halted, or none */
+    size_t most;             /* bytes, by sam.h */
+    uint32_t empty, full;    /* the numbers that the call gives */
+};
+
+/* A program, its image, and a machine as the row has it. */
+static void prepare(bool is_full, const struct row *row) {
     source_len = 0;
     if (is_full) write_full_source();
     assemble();
@@ -107,8 +121,8 @@ static void prepare(bool is_full, const struct cell *cell) {
     pack();
     image_len = told[0];
     reset();
-    step();
-    if (cell != NULL) halt_at(cell);
+    for (int i = 0; i < row->steps; i++) step();
+    if (row->cell != NULL) halt_at(row->cell);
 }
 
 /* ---- the painted stack */
@@ -143,11 +157,11 @@ static size_t depth_in(unsigned char colour, void (*call)(void)) {
 }
 
 /* In two colours, since a call may write the paint's own byte. The first time the linker may look up memset there. */
-static size_t depth(bool is_full, const struct cell *cell, void (*call)(void)) {
+static size_t depth(bool is_full, const struct row *row, void (*call)(void)) {
     static const unsigned char colours[] = {0xA5, 0xA5, 0x5A};
     size_t deepest = 0;
     for (size_t i = 0; i < sizeof colours; i++) {
-        prepare(is_full, cell);
+        prepare(is_full, row);
         size_t now = depth_in(colours[i], call);
         if (i > 0 && now > deepest) deepest = now;
     }
@@ -157,37 +171,36 @@ static size_t depth(bool is_full, const struct cell *cell, void (*call)(void)) {
 static void nothing(void) {}
 
 /* `number` is then the call's. */
-static size_t used(bool is_full, const struct cell *cell, void (*call)(void)) {
-    size_t without = depth(is_full, cell, nothing);
-    return depth(is_full, cell, call) - without;
+static size_t used(bool is_full, const struct row *row) {
+    size_t without = depth(is_full, row, nothing);
+    return depth(is_full, row, row->call) - without;
 }
 
 /* ---- the table */
 
-static const struct row {
-    const char *name;
-    void (*call)(void);
-    const struct cell *cell; /* where the machine is halted, or none */
-    size_t most;             /* bytes, by sam.h */
-    uint32_t empty, full;    /* the numbers that the call gives */
-} ROWS[] = {
-    {"assemble", assemble, NULL, SAM_ASSEMBLE_STACK, 0, 0},
-    {"list", list, NULL, SAM_LIST_STACK, 0, 0},
-    {"pack", pack, NULL, SAM_PACK_STACK, 0, 0},
-    {"unpack", unpack, NULL, SAM_UNPACK_STACK, 0, 0},
-    {"reset", reset, NULL, SAM_RESET_STACK, 0, 0},
-    {"step", step, NULL, SAM_STEP_STACK, 2, 0},
-    {"step back", step_back, NULL, SAM_STEP_BACK_STACK, 9, 0},
-    {"run", run, NULL, SAM_RUN_STACK, 2, 50},
-    {"dwell INT", dwell, &TENTHS, SAM_DWELL_STACK, 0, 0},
-    {"dwell FLOAT", dwell, &SECONDS, SAM_DWELL_STACK, 0, 0},
-    {"dwell least", dwell, &LEAST, SAM_DWELL_STACK, 0, 0},
-    {"dwell most", dwell, &GREATEST, SAM_DWELL_STACK, 0, 0},
+static const struct row ROWS[] = {
+    {"assemble", assemble, 0, NULL, SAM_ASSEMBLE_STACK, 0, 0},
+    {"list", list, 0, NULL, SAM_LIST_STACK, 0, 0},
+    {"pack", pack, 0, NULL, SAM_PACK_STACK, 0, 0},
+    {"unpack", unpack, 0, NULL, SAM_UNPACK_STACK, 0, 0},
+    {"reset", reset, TO_WRITECH + 1, NULL, SAM_RESET_STACK, 0, 0},
+    {"step ITOF", step, TO_ITOF, NULL, SAM_STEP_STACK, 2, 0},
+    {"step WRITECH", step, TO_WRITECH, NULL, SAM_STEP_STACK, 2, 0},
+    {"back ITOF", step_back, TO_ITOF + 1, NULL, SAM_STEP_BACK_STACK, 9, 0},
+    {"back WRITECH", step_back, TO_WRITECH + 1, NULL, SAM_STEP_BACK_STACK, 9, 0},
+    {"run", run, 0, NULL, SAM_RUN_STACK, 2, 50},
+    {"dwell INT", dwell, 1, &TENTHS, SAM_DWELL_STACK, 0, 0},
+    {"dwell FLOAT", dwell, 1, &SECONDS, SAM_DWELL_STACK, 0, 0},
+    {"dwell least", dwell, 1, &LEAST, SAM_DWELL_STACK, 0, 0},
+    {"dwell most", dwell, 1, &GREATEST, SAM_DWELL_STACK, 0, 0},
 };
+
+/* What request c forbids. */
+static const struct row COPY = {"copy", pack_by_a_copy, 0, NULL, SAM_IMAGE_BYTES, 0, 0};
 
 /* The bytes of a call, which must give this number. */
 static size_t measured(const struct row *row, bool is_full, uint32_t expected) {
-    size_t bytes = used(is_full, row->cell, row->call);
+    size_t bytes = used(is_full, row);
     if (number != expected) die(row->name);
     return bytes;
 }
@@ -195,14 +208,14 @@ static size_t measured(const struct row *row, bool is_full, uint32_t expected) {
 static bool is_within(const struct row *row) {
     size_t empty = measured(row, false, row->empty), full = measured(row, true, row->full);
     bool within = empty <= row->most && full <= row->most && (row->call != pack || full <= empty);
-    printf("%-11s %6zu %6zu %9zu%s\n", row->name, empty, full, row->most, within ? "" : "   TOO MUCH");
+    printf("%-12s %6zu %6zu %9zu%s\n", row->name, empty, full, row->most, within ? "" : "   TOO MUCH");
     return within;
 }
 
 int main(void) {
     bool within = true;
-    printf("stack        empty  1,024   at most\n");
+    printf("stack         empty  1,024   at most\n");
     for (size_t i = 0; i < sizeof ROWS / sizeof ROWS[0]; i++) within = is_within(&ROWS[i]) && within;
-    if (used(true, NULL, pack_by_a_copy) < SAM_IMAGE_BYTES) die("a copy of the image was not seen");
+    if (used(true, &COPY) < SAM_IMAGE_BYTES) die("a copy of the image was not seen");
     return within ? 0 : 1;
 }

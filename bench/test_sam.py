@@ -1,6 +1,6 @@
 #!/usr/bin/env python3
-"""Tests of the interpreter in sam/: the twelve P examples of document 01, its sentences, requests a, b, d, e, f and g,
-and the settled readings.
+"""Tests of the interpreter in sam/: the twelve P examples of document 01, its sentences, requests a, b, d, e, f, g and
+h, and the settled readings.
 
 Every expected value is read off the documents or worked out by hand; none is copied from an output.
 """
@@ -17,7 +17,7 @@ import decimals
 import programs
 import sam
 from sam import floats
-from sam.actions import FLOAT, INT, MA, PA
+from sam.actions import CH, FLOAT, INT, MA, PA
 
 PLACES = 1024
 WORD = 1 << 32
@@ -36,16 +36,16 @@ def program(text):
     return sam.Program(table, length)
 
 
-def started(text, n=16, h=0):
+def started(text, n=16, h=0, output=0):
     made = program(text)
-    state = sam.State(bits=[9] * n, tags=[1] * n, history=[9] * h)
+    state = sam.State(bits=[9] * n, tags=[1] * n, history=[9] * h, output=bytearray([9] * output))
     assert sam.reset(made, state) == 0
     return made, state
 
 
-def stepped(text, n=16, h=0):
+def stepped(text, n=16, h=0, output=0):
     """The numbers of steps until one is refused or HALT is set, and the state."""
-    made, state = started(text, n, h)
+    made, state = started(text, n, h, output)
     numbers = []
     while not state.registers.halt:
         numbers.append(sam.step(made, state))
@@ -58,15 +58,16 @@ def live(state):
     return state.cells(0, state.registers.sp)
 
 
-def stacked(*cells, h=0):
-    """A machine with these (tag, bits) on its stack, in as few cells as hold them."""
+def stacked(*cells, h=0, output=b"", written=0):
+    """A machine with these (tag, bits) on its stack, in as few cells as hold them, and with this output."""
     tags, bits = map(list, zip(*cells, (INT, 0)))
-    return sam.State(bits, tags, [0] * h, sam.Registers(n=len(bits), h=h, sp=len(cells)))
+    registers = sam.Registers(n=len(bits), h=h, sp=len(cells), written=written)
+    return sam.State(bits, tags, [0] * h, bytearray(output), registers)
 
 
 def contents(state):
     """All that a call may change."""
-    return list(state.bits), list(state.tags), list(state.history), replace(state.registers)
+    return list(state.bits), list(state.tags), list(state.history), bytes(state.output), replace(state.registers)
 
 
 class PExamples(unittest.TestCase):
@@ -116,7 +117,7 @@ class PExamples(unittest.TestCase):
     def test_p12(self):
         made, state = started("PUSHIMM 40 PUSHIMMF #40200000 STOREOFF 0", h=6)
         self.assertEqual([sam.step(made, state) for _ in range(3)], [0, 0, 0])
-        self.assertEqual(state.history[4:], [0x0000000001400000, 0x8020080000400000])
+        self.assertEqual(state.history[4:], [0x0000000000A00000, 0x8020080000400000])
         self.assertEqual(state.cell(0), (FLOAT, 0x40200000))
         self.assertEqual(sam.step_back(made, state), 0)
         self.assertEqual(state.cell(0), (INT, 40))
@@ -284,10 +285,11 @@ class Tables(unittest.TestCase):
         for places, length in [
             (table(), 1025),
             (table(1), 1),  # STOP with an operand
-            (table(52 << 32), 1),
+            (table(54 << 32), 1),
             (table(63 << 32), 1),
             (table(50 << 32 | 1), 1),  # ITOF with an operand
             (table(51 << 32 | 1), 1),
+            (table(53 << 32 | 1), 1),  # WRITECH with an operand
             (table(1 << 38), 1),
             (table(0, 5 << 32), 1),  # an unused place not zero
             (table(39 << 32 | 1000), 1),
@@ -315,8 +317,8 @@ class Images(unittest.TestCase):
             (count(1) + code(1) + "0" * 16, 41),
             (count(1025), 42),
             (count(2047), 42),
-            (count(1) + code(52), 43),
-            (count(2) + code(51) + code(52), 43),
+            (count(1) + code(54), 43),
+            (count(2) + code(53) + code(54), 43),
             (count(1) + code(63), 43),
             (count(1) + code(39) + format(1000, "011b"), 44),
             (count(1) + code(43) + format(2048 - 1000, "011b"), 44),
@@ -541,7 +543,7 @@ class EqualAndNil(unittest.TestCase):
         made, state = started("PUSHIMMF #80000000 PUSHIMMF #00000000 EQUAL", h=6)
         self.assertEqual([sam.step(made, state) for _ in range(3)], [0, 0, 0])
         self.assertEqual(live(state), [(INT, 1)])
-        self.assertEqual(state.history[4:], [0x000C000000000000, 0x8020080000400000])
+        self.assertEqual(state.history[4:], [0x0006000000000000, 0x8020080000400000])
         self.assertEqual(sam.step_back(made, state), 0)
         self.assertEqual(live(state), [(FLOAT, self.MINUS_ZERO), (FLOAT, self.ZERO)])
         self.assertEqual(state.registers, sam.Registers(n=16, h=6, pc=2, sp=2, used=4, kept=2))
@@ -696,7 +698,7 @@ class AddressSums(unittest.TestCase):
             state = stacked((MA, below % WORD), (INT, top % WORD))
             state.registers.halt = 1
             self.assertEqual(sam.step(program(name), state), 1)
-            state.tags[2] = 4
+            state.tags[2] = 5
             self.assertEqual(sam.step(program(name), state), 10)
 
     def test_before_history(self):
@@ -732,7 +734,7 @@ class AddressSums(unittest.TestCase):
         before = contents(state)
         self.assertEqual(live(state), [(MA, 1 << 31)])
         # PUSHIMM -1 wrote cell 1, in which the popped INT -2147483648 stood, at PC 3 with SP 1.
-        pushed = [1 << 53 | 1 << 50, 1 << 63 | 3 << 52 | 1 << 42 | 1 << 22]
+        pushed = [1 << 53 | 1 << 49, 1 << 63 | 3 << 52 | 1 << 42 | 1 << 22]
         self.assertEqual((sam.step(made, state), sam.step(made, state)), (0, 6))
         self.assertEqual(state.history[6:], pushed + [0])
         self.assertEqual(sam.step_back(made, state), 0)
@@ -1183,7 +1185,7 @@ class Conversions(unittest.TestCase):
         self.assertEqual([sam.step(made, state) for _ in range(3)], [0, 0, 0])
         self.assertEqual(live(state), [(INT, 16777216)])
         mark = lambda pc: 1 << 63 | pc << 52 | 1 << 42 | 1 << 22
-        self.assertEqual(state.history[2:7], [0x01000001 << 19, mark(1), FLOAT << 51 | 0x4B800000 << 19, mark(2), 0])
+        self.assertEqual(state.history[2:7], [0x01000001 << 18, mark(1), FLOAT << 50 | 0x4B800000 << 18, mark(2), 0])
         self.assertEqual(sam.step_back(made, state), 0)
         self.assertEqual((live(state), state.registers.pc), ([(FLOAT, 0x4B800000)], 2))
         self.assertEqual(sam.step_back(made, state), 0)
@@ -1485,7 +1487,7 @@ class Dwell(unittest.TestCase):
 
     def test_broken_cells(self):
         """All N cells are judged, live or not."""
-        for address, tag, bits in [(0, 4, 40), (3, 4, 0), (3, 255, 0), (0, PA, 3), (3, PA, 3), (3, PA, WORD - 1)]:
+        for address, tag, bits in [(0, 5, 40), (3, 5, 0), (3, 255, 0), (0, PA, 3), (3, PA, 3), (3, PA, WORD - 1)]:
             made, state = self.halted()
             state.set_cell(address, tag, bits)
             self.check_broken(made, state)
@@ -1516,7 +1518,7 @@ class Dwell(unittest.TestCase):
             (made.table, 1025),
             (made.table[:1023], 2),
             (made.table + [0], 2),
-            ([52 << 32] + made.table[1:], 2),
+            ([54 << 32] + made.table[1:], 2),
             (made.table[:1023] + [1], 2),
         ]:
             self.check_broken(sam.Program(table, length), state)
@@ -1592,7 +1594,7 @@ class KeptNumber(unittest.TestCase):
     ]  # fmt: skip
 
     ONE_PLACE = [1 << 63 | 1 << 42]  # a record of a step at PC 0 with SP 1 that wrote no cell,
-    TWO_PLACES = [40 << 19, 1 << 63 | 1 << 42 | 1 << 22]  # and of one that wrote cell 0, where INT 40 stood
+    TWO_PLACES = [40 << 18, 1 << 63 | 1 << 42 | 1 << 22]  # and of one that wrote cell 0, where INT 40 stood
 
     def by_hand(self, h, used, kept, record=ONE_PLACE, **registers):
         """A machine with INT 40 in cell 0, at a JUMP before a STOP, its places in use full of this record."""
@@ -1621,14 +1623,14 @@ class KeptNumber(unittest.TestCase):
 
     # ---- what each call does with it
 
-    def test_last_register(self):
+    def test_eighth_register(self):
         names = ["n", "h", "pc", "sp", "fbr", "halt", "used", "kept"]
-        self.assertEqual([field.name for field in fields(sam.Registers)], names)
+        self.assertEqual([field.name for field in fields(sam.Registers)][:8], names)
 
     def test_reset(self):
         made = program("STOP")
         for h in (0, 8):
-            state = sam.State([9] * 4, [9] * 4, [9] * h, sam.Registers(1, 2, 3, 4, 5, 6, 7, 8))
+            state = sam.State([9] * 4, [9] * 4, [9] * h, registers=sam.Registers(1, 2, 3, 4, 5, 6, 7, 8))
             self.assertEqual(sam.reset(made, state), 0)
             self.assertEqual(state.registers, sam.Registers(n=4, h=h))
             self.assertEqual(state.registers.kept, 0)
@@ -1637,7 +1639,7 @@ class KeptNumber(unittest.TestCase):
         """ "A refused reset returns zero registers." """
         made = program("STOP")
         for refused, tags, number in [(made, 3, 11), (sam.Program(made.table, 1025), 4, 10)]:
-            state = sam.State([9] * 4, [9] * tags, [9] * 8, sam.Registers(1, 2, 3, 4, 5, 6, 7, 8))
+            state = sam.State([9] * 4, [9] * tags, [9] * 8, registers=sam.Registers(1, 2, 3, 4, 5, 6, 7, 8))
             self.assertEqual(sam.reset(refused, state), number)
             self.assertEqual((state.registers, state.registers.kept), (sam.Registers(), 0))
 
@@ -1776,7 +1778,7 @@ class KeptNumber(unittest.TestCase):
     def check_demand(self, made, state, net_steps):
         """As a fresh reset and S minus B steps leave it, "the number of step places in use", and S minus B."""
         n, h, kept = state.registers.n, state.registers.h, state.registers.kept
-        fresh = sam.State([9] * n, [9] * n, [9] * h, sam.Registers(kept=5))
+        fresh = sam.State([9] * n, [9] * n, [9] * h, bytearray([9] * len(state.output)), sam.Registers(kept=5))
         self.assertEqual(sam.reset(made, fresh), 0)
         for _ in range(net_steps):
             self.assertEqual(sam.step(made, fresh), 0)
@@ -1806,7 +1808,7 @@ class KeptNumber(unittest.TestCase):
         chooser = random.Random(7)
         for h in [0, 1, 2, 5, 12, 40, 200] * 12:
             made, n = self.drawn(chooser), chooser.choice([1, 2, 5, 16, 40])
-            state = sam.State([9] * n, [9] * n, [9] * h)
+            state = sam.State([9] * n, [9] * n, [9] * h, bytearray([9] * chooser.choice([0, 1, 4, 256])))
             self.assertEqual(sam.reset(made, state), 0)
             net_steps = 0
             for _ in range(12):
@@ -1823,6 +1825,361 @@ class KeptNumber(unittest.TestCase):
         for kept in (2, 1, 0):
             self.assertEqual((sam.step_back(made, state), state.registers.kept), (0, kept))
         self.assertEqual((sam.step_back(made, state), state.registers.kept), (9, 0))
+
+
+class Characters(unittest.TestCase):
+    """Request h: characters for the landing panel."""
+
+    LETTER = (CH, 76)
+    OTHERS = [(INT, 76), (FLOAT, 76), (MA, 0), (PA, 0)]
+    # Bytes of an output and a written count that is not above them.
+    ALLOWED = [(0, 0), (1, 0), (1, 1), (2, 1), (255, 255), (256, 0), (256, 255), (256, 256)]
+    # An output that is too long, or a count above its length.
+    BROKEN = [(257, 0), (257, 1), (257, 257), (1000, 0), (0, 1), (0, 256), (0, 1 << 32), (0, (1 << 64) - 1), (1, 2),
+              (1, 257), (1, (1 << 32) + 1), (255, 256), (256, 257), (256, 512), (256, 1 << 63)]  # fmt: skip
+    BROKEN_CELLS = [(5, 0), (5, 76), (6, 0), (7, 0), (8, 0), (255, 0), (CH, 128), (CH, 255), (CH, 256), (CH, 1 << 31),
+                    (CH, WORD - 1)]  # fmt: skip
+
+    def filled(self, size):
+        """Bytes that no WRITECH writes: what they are is not judged."""
+        return bytes((200 + i) % 256 for i in range(size))
+
+    def by_hand(self, text="WRITECH STOP", cell=LETTER, size=4, written=1, h=8, **registers):
+        """A machine with one value, before the first instruction, whose output has any bytes."""
+        state = stacked(cell, h=h, output=self.filled(size), written=written)
+        state.registers = replace(state.registers, **registers)
+        return program(text), state
+
+    def check_broken(self, made, state):
+        """10 from each call that asks for a sound state, and nothing changed."""
+        before = contents(state)
+        for number in (sam.step(made, state), sam.step_back(made, state)):
+            self.assertEqual(number, 10, before)
+        self.assertEqual([sam.run(made, state, limit) for limit in (0, 9)], [(10, 0)] * 2, before)
+        self.assertEqual(sam.run(made, state, 1000001), (11, 0))
+        self.assertEqual(sam.dwell(made, state), (10, 0), before)
+        self.assertEqual(contents(state), before)
+
+    # ---- text, table and image
+
+    def test_codes(self):
+        self.assertEqual(program("PUSHIMMCH 127 WRITECH").table[:2], [52 << 32 | 127, 53 << 32])
+
+    def test_operands(self):
+        for word, code in [("0", 0), ("127", 127), ("-0", 0), ("76", 76), ("007", 7), ("0000000127", 127),
+                           ("-0000000000", 0)]:  # fmt: skip
+            self.assertEqual(program("PUSHIMMCH " + word).table[0], 52 << 32 | code, word)
+
+    def test_refused_operands(self):
+        for word, number in [
+            ("128", 25), ("-1", 25), ("255", 25), ("256", 25), ("4294967296", 25), ("9999999999", 25),
+            ("00000000000", 25), ("-00000000000", 25), ("00000000076", 25),  # "more than 10 digits is 25"
+            ("A", 33), ("L", 33), ("x76", 33), ("76x", 33), ("#4C", 33), ("#0000004C", 33), ("7.6", 33), ("-", 33),
+            ("--1", 33), ("76:", 33), ("128:", 33), (":", 33), ("00000000076x", 33), ("WRITECH", 33),
+        ]:  # fmt: skip
+            answer, table = assembled("STOP\nPUSHIMMCH " + word)
+            self.assertEqual((answer, any(table)), ((number, 0, 15, 2, 11), False), word)
+        for text, number, place in [
+            ("PUSHIMMCH", 24, 9),
+            ("PUSHIMMCH // 76", 24, 15),
+            ("PUSHIMMCH 'L'", 22, 10),
+            ("WRITECH 76", 23, 8),
+            ("writech", 23, 0),
+            ("PUSHIMMCH 76 76", 23, 13),
+        ]:
+            self.assertEqual(assembled(text)[0], (number, 0, place, 1, place + 1), text)
+
+    def test_listing(self):
+        made, text = program("PUSHIMMCH 007 PUSHIMMCH -0 PUSHIMMCH 127 WRITECH"), bytearray(20480)
+        listing = b"PUSHIMMCH 7\nPUSHIMMCH 0\nPUSHIMMCH 127\nWRITECH\n"
+        self.assertEqual(sam.list_program(made.table, made.length, text), (0, len(listing)))
+        self.assertEqual(text.rstrip(b"\0"), listing)
+
+    def test_table(self):
+        for operand, number in [(0, 0), (127, 0), (128, 10), (255, 10), (1 << 31, 10), (WORD - 1, 10)]:
+            table = [52 << 32 | operand] + [0] * (PLACES - 1)
+            self.assertEqual(sam.pack(table, 1, bytearray(4866))[0], number, operand)
+            self.assertEqual(sam.list_program(table, 1, bytearray(20480))[0], number, operand)
+            self.assertEqual(sam.step(sam.Program(table, 1), stacked((INT, 0), (INT, 0))), 10 if number else 7, operand)
+
+    def test_image(self):
+        """Count 11 bits, code 6 and operand 7: 24 bits of one PUSHIMMCH."""
+        for text, packed in [
+            ("PUSHIMMCH 72", "00 3A 48"),  # 00000000 001 11010 0 1001000
+            ("PUSHIMMCH 127 WRITECH", "00 5A 7F D4"),  # 00000000 010 11010 0 1111111 110101 00
+            ("STOP PUSHIMMCH 72", "00 40 69 20"),  # 00000000 010 00000 0 110100 1 001000 00
+        ]:
+            made, image, table = program(text), bytearray(4866), [7] * PLACES
+            number, length = sam.pack(made.table, made.length, image)
+            self.assertEqual((number, image[:length].hex(" ").upper()), (0, packed))
+            self.assertEqual(sam.unpack(bytes(image[:length]), table), (0, made.length))
+            self.assertEqual(table, made.table)
+            self.assertEqual(sam.unpack(bytes(image[: length - 1]), table), (41, 0))
+        self.assertEqual(sam.unpack(bytes.fromhex("003B00"), [7] * PLACES), (43, 0))  # code 54
+
+    # ---- WRITECH
+
+    def test_word(self):
+        """ "HI": each push has a record of two places, each WRITECH one of one place, and popped cells keep theirs."""
+        made, state = started("PUSHIMMCH 72 WRITECH PUSHIMMCH 73 WRITECH STOP", n=2, h=6, output=3)
+        self.assertEqual(sam.run(made, state, 4), (50, 4))
+        self.assertEqual((bytes(state.output), state.registers.written), (b"HI\0", 2))
+        self.assertEqual((state.registers.sp, state.cell(0)), (0, (CH, 73)))
+        mark = lambda pc, sp, written: 1 << 63 | pc << 52 | sp << 42 | written << 22
+        places = [0, mark(0, 0, 1), mark(1, 1, 0), CH << 50 | 72 << 18, mark(2, 0, 1), mark(3, 1, 0)]
+        self.assertEqual(state.history, places)
+        self.assertEqual((sam.step(made, state), state.registers.kept), (8, 4))
+
+    def test_last_register(self):
+        self.assertEqual([field.name for field in fields(sam.Registers)][8:], ["written"])
+
+    def test_order(self):
+        """3, 4, 12 and 8, each before those behind it, by a step and by a run."""
+        full, room = (1, 1), (2, 1)
+        for cell, sp, (size, written), (h, used), number in [
+            (self.LETTER, 0, full, (8, 8), 3),
+            (self.LETTER, 0, full, (8, 0), 3),
+            (self.LETTER, 0, room, (8, 8), 3),
+            (self.LETTER, 0, room, (0, 0), 3),
+            *[(other, 1, full, (8, 8), 4) for other in self.OTHERS],
+            *[(other, 1, full, (0, 0), 4) for other in self.OTHERS],
+            *[(other, 1, room, (8, 8), 4) for other in self.OTHERS],
+            *[(other, 1, room, (8, 0), 4) for other in self.OTHERS],
+            (self.LETTER, 1, full, (8, 8), 12),
+            (self.LETTER, 1, full, (8, 7), 12),
+            (self.LETTER, 1, full, (0, 0), 12),
+            (self.LETTER, 1, (0, 0), (8, 0), 12),  # "an output of 0 bytes is full"
+            (self.LETTER, 1, (0, 0), (8, 8), 12),
+            (self.LETTER, 1, (256, 256), (0, 0), 12),
+            (self.LETTER, 1, room, (8, 8), 8),
+            (self.LETTER, 1, (256, 255), (1, 1), 8),
+        ]:
+            made, state = self.by_hand(cell=cell, size=size, written=written, h=h, sp=sp, used=used, kept=used)
+            before = contents(state)
+            self.assertEqual(sam.step(made, state), number, before)
+            self.assertEqual(sam.run(made, state, 9), (number, 0), before)
+            self.assertEqual(contents(state), before)
+
+    def test_before_all(self):
+        """10, 1 and 2 before them."""
+        for number, changes in [(1, {"halt": 1}), (2, {"pc": 2}), (10, {"fbr": 2}), (10, {"written": 5})]:
+            made, state = self.by_hand(size=4, written=4)
+            state.registers = replace(state.registers, **changes)
+            self.assertEqual(sam.step(made, state), number)
+
+    def test_last_room(self):
+        """One byte left and one place left."""
+        for size, h in product((1, 2, 255, 256), (0, 1, 8)):
+            made, state = self.by_hand(size=size, written=size - 1, h=h, used=max(h - 1, 0), kept=max(h - 1, 0))
+            self.assertEqual(sam.step(made, state), 0)
+            self.assertEqual(bytes(state.output), self.filled(size)[:-1] + b"L")
+            self.assertEqual((state.registers.written, state.registers.used), (size, h))
+
+    def test_bytes_behind_stay(self):
+        made, state = self.by_hand(size=4, written=1)
+        self.assertEqual(sam.run(made, state, 9), (0, 2))
+        self.assertEqual(bytes(state.output), bytes([200, 76, 202, 203]))
+
+    def test_every_character(self):
+        for code in range(128):
+            made, state = started(f"PUSHIMMCH {code} DUP WRITECH STOP", output=1)
+            self.assertEqual(sam.run(made, state, 9), (0, 4))
+            self.assertEqual((live(state), state.output[0]), ([(CH, code)], code))
+
+    def test_run_until_full(self):
+        """ "Steps made before a refusal stand": one, three for each character written, and the DUP before the refused
+        one; with H = 8 records of 2, 2, 1, 1 and 2 places leave no room for a second."""
+        for h, size, answer, written in [
+            (0, 256, (12, 770), 256),
+            (0, 3, (12, 11), 3),
+            (0, 0, (12, 2), 0),
+            (64, 3, (12, 11), 3),
+            (8, 3, (8, 5), 1),
+        ]:
+            made, state = started("PUSHIMMCH 65 a: DUP WRITECH JUMP a", h=h, output=size)
+            self.assertEqual(sam.run(made, state, 9999), answer)
+            self.assertEqual(bytes(state.output), b"A" * written + bytes(size - written))
+            self.assertEqual(state.registers.written, written)
+
+    # ---- step-back
+
+    def test_back(self):
+        """ "its step-back drops and zeroes the last byte", and the bytes behind stay."""
+        made, state = self.by_hand(size=4, written=2)
+        before = contents(state)
+        self.assertEqual(sam.step(made, state), 0)
+        self.assertEqual(sam.step_back(made, state), 0)
+        bits, tags, history, output, registers = contents(state)
+        self.assertEqual((bits, tags, history, registers), (*before[:3], before[4]))
+        self.assertEqual(output, bytes([200, 201, 0, 203]))
+
+    def test_back_of_others(self):
+        made, state = self.by_hand("DUP STOP", size=4, written=2)
+        state.bits.append(0)
+        state.tags.append(INT)
+        state.registers.n = 3
+        self.assertEqual((sam.step(made, state), sam.step_back(made, state)), (0, 0))
+        self.assertEqual((bytes(state.output), state.registers.written), (self.filled(4), 2))
+
+    def recorded(self, cells, size, written, text="WRITECH STOP", pc=0):
+        """A machine with one record made by hand, of a step at this PC that wrote these (address, tag, bits)."""
+        made, state = self.by_hand(text, (INT, 40), size, written, pc=1)
+        places = [address << 53 | tag << 50 | bits << 18 for address, tag, bits in cells]
+        state.history[: len(cells) + 1] = places + [1 << 63 | pc << 52 | 1 << 42 | len(cells) << 22]
+        state.registers = replace(state.registers, used=len(cells) + 1, kept=1)
+        return made, state
+
+    def test_nothing_written(self):
+        """ "10 [...] at step-back [for] a top record at a WRITECH with nothing written"; with U = 0 it is 9."""
+        for cells, size in product([[], [(0, CH, 76)]], (0, 1, 256)):
+            made, state = self.recorded(cells, size, 0)
+            before = contents(state)
+            self.assertEqual(sam.step_back(made, state), 10)
+            self.assertEqual(contents(state), before)
+            self.assertEqual(sam.dwell(made, state), (60, 0))  # no other call looks at it
+            self.assertEqual(sam.step(made, state), 0)
+        for written in (0, 1):
+            made, state = self.by_hand(written=written)
+            self.assertEqual(sam.step_back(made, state), 9)
+
+    def test_record_with_cells(self):
+        """Made by hand: the cells are restored, and the byte is dropped."""
+        made, state = self.recorded([(0, CH, 127), (1, FLOAT, 5)], 3, 2)
+        self.assertEqual(sam.step_back(made, state), 0)
+        self.assertEqual((state.cells(0, 2), bytes(state.output)), ([(CH, 127), (FLOAT, 5)], bytes([200, 0, 202])))
+        self.assertEqual(state.registers, sam.Registers(n=2, h=8, sp=1, written=1))
+        self.assertFalse(any(state.history))
+
+    def test_program_handed(self):
+        """The instruction at the old PC is that of the program handed to the step-back."""
+        made, state = self.recorded([], 3, 2, "JUMP 1 WRITECH STOP", pc=0)
+        self.assertEqual((sam.step_back(made, state), state.registers.written), (0, 2))
+        made, state = self.recorded([], 3, 2, "JUMP 1 WRITECH STOP", pc=1)
+        self.assertEqual((sam.step_back(made, state), state.registers.written), (0, 1))
+
+    def test_restored(self):
+        for cell in [(CH, 0), (CH, 76), (CH, 127)]:
+            made, state = self.recorded([(1, *cell)], 2, 1)
+            self.assertEqual((sam.step_back(made, state), state.cell(1)), (0, cell))
+        for tag, bits in self.BROKEN_CELLS:
+            if tag < 8:  # three bits
+                made, state = self.recorded([(1, tag, bits)], 2, 1)
+                before = contents(state)
+                self.assertEqual(sam.step_back(made, state), 10, (tag, bits))
+                self.assertEqual(contents(state), before)
+
+    # ---- reset and 10
+
+    def test_reset(self):
+        made = program("STOP")
+        for size, number in [(0, 0), (1, 0), (256, 0), (257, 11), (1000, 11)]:
+            state = sam.State([9] * 4, [9] * 4, [9] * 8, bytearray(self.filled(size)), sam.Registers(*range(1, 10)))
+            self.assertEqual(sam.reset(made, state), number)
+            if number == 0:
+                self.assertEqual((bytes(state.output), state.registers), (bytes(size), sam.Registers(n=4, h=8)))
+            else:
+                self.assertEqual((bytes(state.output), state.registers), (self.filled(size), sam.Registers()))
+        state = sam.State([9], [9], [], bytearray(257))
+        self.assertEqual(sam.reset(sam.Program(made.table, 1025), state), 11)  # 11 before 10
+        state = sam.State([9], [9], [], bytearray(b"\x09"))
+        self.assertEqual(sam.reset(sam.Program(made.table, 1025), state), 10)
+        self.assertEqual(state.output, b"\x09")
+
+    def test_broken_outputs(self):
+        for (size, written), halt in product(self.BROKEN, (0, 1)):
+            self.check_broken(*self.by_hand("JUMP 1 STOP", size=size, written=written, halt=halt))
+
+    def test_allowed_outputs(self):
+        for size, written in self.ALLOWED:
+            made, state = self.by_hand("JUMP 1 STOP", (INT, 40), size, written)
+            self.assertEqual((sam.step(made, state), sam.step_back(made, state)), (0, 0))
+            self.assertEqual((sam.run(made, state, 9), sam.dwell(made, state)), ((0, 2), (0, 40)))
+            self.assertEqual((bytes(state.output), state.registers.written), (self.filled(size), written))
+
+    def test_cells(self):
+        """Live and dead."""
+        for cell, sp in product(self.BROKEN_CELLS, (0, 1)):
+            self.check_broken(*self.by_hand("JUMP 1 STOP", cell, sp=sp))
+        for code, sp in product((0, 76, 127), (0, 1)):
+            made, state = self.by_hand("JUMP 1 STOP", (CH, code), sp=sp)
+            self.assertEqual(sam.run(made, state, 9), (0, 2))
+
+    # ---- other instructions
+
+    def test_equal_and_nil(self):
+        """They "take CH as any tag": by its bits."""
+        cells = [(CH, 0), (CH, 1), (CH, 127), (INT, 0), (FLOAT, 0), (MA, 0), (PA, 0), (INT, 127), (FLOAT, 127)]
+        for below, top in product(cells, cells):
+            state = stacked(below, top)
+            self.assertEqual((sam.step(program("EQUAL"), state), live(state)), (0, [(INT, int(below == top))]))
+        for code in (0, 1, 127):
+            state = stacked((CH, code))
+            self.assertEqual((sam.step(program("ISNIL"), state), live(state)), (0, [(INT, int(code == 0))]))
+
+    def test_not_taken(self):
+        two = "ADD SUB TIMES DIV MOD AND OR NAND NOR XOR BITAND BITOR BITNAND BITNOR BITXOR CMP GREATER LESS"
+        for name in (two + " ADDF SUBF TIMESF DIVF CMPF STOREIND").split():
+            for below, top in [((CH, 1), (CH, 1)), ((INT, 1), (CH, 1)), ((CH, 1), (INT, 1)), ((CH, 1), (MA, 1))]:
+                self.assertEqual(sam.step(program(name), stacked(below, top)), 4, name)
+        one = "NOT BITNOT ISPOS ISNEG ITOF FTOI POPSP POPFBR PUSHIND JUMPIND JSRIND"
+        for name in one.split() + ["JUMPC 0"]:
+            self.assertEqual(sam.step(program(name), stacked((CH, 0))), 4, name)
+
+    def test_copies_carry_the_tag(self):
+        for text, cells in [
+            ("PUSHIMMCH 5 DUP", [(CH, 5), (CH, 5)]),
+            ("PUSHIMMCH 5 PUSHIMM 6 SWAP", [(INT, 6), (CH, 5)]),
+            ("PUSHIMMCH 5 PUSHOFF 0", [(CH, 5), (CH, 5)]),
+            ("PUSHIMM 6 PUSHIMMCH 5 STOREOFF 0", [(CH, 5)]),
+            ("PUSHIMMCH 5 PUSHFBR PUSHIND", [(CH, 5), (CH, 5)]),
+            ("PUSHIMM 6 PUSHFBR PUSHIMMCH 5 STOREIND", [(CH, 5)]),
+        ]:
+            numbers, state = stepped(text + " STOP")
+            self.assertEqual((set(numbers), live(state)), ({0}, cells), text)
+
+    def test_dwell(self):
+        for code in (0, 10, 40, 127):
+            made, state = self.by_hand("STOP", (CH, code), halt=1)
+            self.assertEqual(sam.dwell(made, state), (62, 0))
+
+    # ---- demand 3
+
+    def test_demand(self):
+        """ "Demand 3 now includes output bytes and their count": as a fresh reset and S minus B steps leave them."""
+        chooser = random.Random(8)
+        made = program("a: PUSHIMMCH 72 WRITECH PUSHIMMCH 73 DUP WRITECH WRITECH JUMP a")
+        for size, h in product((0, 1, 3, 40, 256), (1, 12, 300)):
+            state = sam.State([9] * 4, [9] * 4, [9] * h, bytearray(self.filled(size)))
+            sam.reset(made, state)
+            net_steps = 0
+            for _ in range(40):
+                kind = chooser.randrange(3)
+                if kind == 0:
+                    net_steps += sam.run(made, state, chooser.randrange(20))[1]
+                else:
+                    number = sam.step(made, state) if kind == 1 else sam.step_back(made, state)
+                    net_steps += (1 if kind == 1 else -1) if number == 0 else 0
+                fresh = sam.State([7] * 4, [7] * 4, [7] * h, bytearray(self.filled(size)))
+                sam.reset(made, fresh)
+                self.assertEqual([sam.step(made, fresh) for _ in range(net_steps)], [0] * net_steps)
+                self.assertEqual(contents(state), contents(fresh))
+            while state.registers.kept:
+                self.assertEqual(sam.step_back(made, state), 0)
+            self.assertEqual((bytes(state.output), state.registers.written), (bytes(size), 0))
+
+    # ---- the console
+
+    def test_console(self):
+        for text, printed in [
+            ("PUSHIMMCH 72 WRITECH PUSHIMMCH 73 WRITECH STOP", "end 0 steps 5\nPC 4 SP 0 FBR 0\nout 48 49\n"),
+            ("PUSHIMMCH 72 PUSHIMMCH 0 STOP", "end 0 steps 3\nPC 2 SP 2 FBR 0\n0 CH 72\n1 CH 0\n"),
+            ("PUSHIMMCH 127 DUP WRITECH ADD", "end 3 steps 3\nPC 3 SP 1 FBR 0\n0 CH 127\nout 7F\n"),
+            ("PUSHIMMCH 10 WRITECH", "end 2 steps 2\nPC 2 SP 0 FBR 0\nout 0A\n"),
+            ("WRITECH", "end 3 steps 0\nPC 0 SP 0 FBR 0\n"),
+            ("PUSHIMMCH 65 a: DUP WRITECH JUMP a",
+             "end 12 steps 770\nPC 2 SP 2 FBR 0\n0 CH 65\n1 CH 65\nout" + " 41" * 256 + "\n"),
+        ]:  # fmt: skip
+            self.assertEqual(sam.console(text.encode()), printed, text)
 
 
 class Soundness(unittest.TestCase):
@@ -1849,7 +2206,8 @@ class Soundness(unittest.TestCase):
         for name, value in wrong + [("used", 0), ("kept", 0), ("kept", 3)]:  # U is 2 and the kept number 1
             self.assertEqual(self.broken(**{name: value}), 10, name)
         self.assertEqual(self.broken(halt=1), 0)
-        self.assertEqual(self.broken(tags=(3, 4)), 10)
+        self.assertEqual(self.broken(tags=(3, 5)), 10)
+        self.assertEqual(self.broken(written=1), 10)  # of an output of 0 bytes
         self.assertEqual(self.broken(used=0, kept=0), 9)
 
     def test_program_addresses(self):
@@ -1861,7 +2219,7 @@ class Soundness(unittest.TestCase):
 
     def test_records(self):
         def cell(address, tag=0, bits=0, rest=0):
-            return address << 53 | tag << 51 | bits << 19 | rest
+            return address << 53 | tag << 50 | bits << 18 | rest
 
         def mark(pc=0, sp=0, fbr=0, written=1, rest=0):
             return 1 << 63 | pc << 52 | sp << 42 | fbr << 32 | written << 22 | rest
@@ -1870,8 +2228,15 @@ class Soundness(unittest.TestCase):
             ([cell(0), mark()], 0),
             ([cell(3, PA, 4), mark(pc=3, sp=3, fbr=3)], 0),
             ([cell(3, PA, 5), mark()], 10),
+            ([cell(3, CH, 127), mark()], 0),
+            ([cell(3, CH, 128), mark()], 10),
+            ([cell(3, CH, WORD - 1), mark()], 10),
+            ([cell(3, 5), mark()], 10),
+            ([cell(3, 7), mark()], 10),
             ([cell(4), mark()], 10),
             ([cell(0, rest=1), mark()], 10),
+            ([cell(0, rest=1 << 17), mark()], 10),
+            ([cell(0, INT, 1), mark()], 0),
             ([mark(), mark()], 10),
             ([cell(0), mark(rest=1)], 10),
             ([cell(0), mark() - (1 << 63)], 10),

@@ -1,5 +1,5 @@
-/* Tests of the C library through sam.h: the complaint of document 01, those of requests b and d, requests e, f and g,
- * and samples of every refusal. One line for each check. */
+/* Tests of the C library through sam.h: the complaint of document 01, those of requests b and d, requests e, f, g and
+ * h, and samples of every refusal. One line for each check. */
 #include <stdbool.h>
 #include <stdio.h>
 #include <string.h>
@@ -38,7 +38,8 @@ static uint64_t registers[SAM_REGISTERS + 1];
 static uint32_t bits[SAM_CELL_LIMIT + 1];
 static uint8_t tags[SAM_CELL_LIMIT + 1];
 static uint64_t history[SAM_HISTORY_LIMIT + 1];
-static size_t n, h;
+static uint8_t output[SAM_OUTPUT_LIMIT + 1];
+static size_t n, h, output_len = SAM_OUTPUT_LIMIT;
 
 enum { MARK = 77 }; /* in lent memory, where a write is to be seen */
 
@@ -70,20 +71,23 @@ static uint32_t assemble(const char *source) { return assemble_bytes(source, str
 static uint32_t reset(size_t cells, size_t places) {
     n = cells;
     h = places;
-    return sam_reset(table, SAM_TABLE_PLACES, length, registers, SAM_REGISTERS, bits, n, tags, n, history, h);
+    return sam_reset(table, SAM_TABLE_PLACES, length, registers, SAM_REGISTERS, bits, n, tags, n, history, h, output,
+                     output_len);
 }
 
 static uint32_t step(void) {
-    return sam_step(table, SAM_TABLE_PLACES, length, registers, SAM_REGISTERS, bits, n, tags, n, history, h);
+    return sam_step(table, SAM_TABLE_PLACES, length, registers, SAM_REGISTERS, bits, n, tags, n, history, h, output,
+                    output_len);
 }
 
 static uint32_t step_back(void) {
-    return sam_step_back(table, SAM_TABLE_PLACES, length, registers, SAM_REGISTERS, bits, n, tags, n, history, h);
+    return sam_step_back(table, SAM_TABLE_PLACES, length, registers, SAM_REGISTERS, bits, n, tags, n, history, h,
+                         output, output_len);
 }
 
 static uint32_t run(uint64_t limit) {
-    return sam_run(table, SAM_TABLE_PLACES, length, limit, registers, SAM_REGISTERS, bits, n, tags, n, history, h, told,
-                   1);
+    return sam_run(table, SAM_TABLE_PLACES, length, limit, registers, SAM_REGISTERS, bits, n, tags, n, history, h,
+                   output, output_len, told, 1);
 }
 
 static void begin(const char *source, size_t cells, size_t places) {
@@ -109,7 +113,7 @@ static void test_complaint(void) {
     check("  step", 0, step());
     check("  kept", 3, registers[SAM_KEPT]);
     check_cell("  after the trial", 0, SAM_FLOAT, 0x40200000);
-    check("  cell place", UINT64_C(0x0000000001400000), history[4]);
+    check("  cell place", UINT64_C(0x0000000000A00000), history[4]);
     check("  step place", UINT64_C(0x8020080000400000), history[5]);
     check("  step-back", 0, step_back());
     check_cell("  after the step-back", 0, SAM_INT, 40);
@@ -226,7 +230,7 @@ static void test_equal_back(void) {
     begin("PUSHIMMF #80000000 PUSHIMMF #00000000 EQUAL", 16, 6);
     check("  run", 50, run(3));
     check_cell("  after EQUAL", 0, SAM_INT, 1);
-    check("  cell place", UINT64_C(0x000C000000000000), history[4]);
+    check("  cell place", UINT64_C(0x0006000000000000), history[4]);
     check("  step place", UINT64_C(0x8020080000400000), history[5]);
     check("  step-back", 0, step_back());
     check_cell("  Vb after the step-back", 0, SAM_FLOAT, 0x80000000);
@@ -255,7 +259,7 @@ static const struct { const char *source; uint64_t steps; } wrapping_addresses[]
 static struct machine {
     uint64_t registers[SAM_REGISTERS], history[SAM_HISTORY_LIMIT];
     uint32_t bits[SAM_CELL_LIMIT];
-    uint8_t tags[SAM_CELL_LIMIT];
+    uint8_t tags[SAM_CELL_LIMIT], output[SAM_OUTPUT_LIMIT + 1];
 } before;
 
 static void remember(void) {
@@ -263,6 +267,7 @@ static void remember(void) {
     memcpy(before.history, history, sizeof before.history);
     memcpy(before.bits, bits, sizeof before.bits);
     memcpy(before.tags, tags, sizeof before.tags);
+    memcpy(before.output, output, sizeof before.output);
 }
 
 static void check_unchanged(const char *name) {
@@ -270,6 +275,7 @@ static void check_unchanged(const char *name) {
     check(name, 0, (uint64_t)(memcmp(before.history, history, sizeof before.history) != 0));
     check(name, 0, (uint64_t)(memcmp(before.bits, bits, sizeof before.bits) != 0));
     check(name, 0, (uint64_t)(memcmp(before.tags, tags, sizeof before.tags) != 0));
+    check(name, 0, (uint64_t)(memcmp(before.output, output, sizeof before.output) != 0));
 }
 
 /* After a refused step: it is refused again, alone and in a run, and nothing changes. */
@@ -541,9 +547,9 @@ static void test_conversions_back(void) {
     begin("PUSHIMM 16777217 ITOF FTOI", 16, 6);
     check("  run", 50, run(3));
     check_cell("  after FTOI", 0, SAM_INT, 16777216);
-    check("  cell place of ITOF", UINT64_C(0x0000080000080000), history[2]);
+    check("  cell place of ITOF", UINT64_C(0x0000040000040000), history[2]);
     check("  step place of ITOF", UINT64_C(0x8010040000400000), history[3]);
-    check("  cell place of FTOI", UINT64_C(0x000A5C0000000000), history[4]);
+    check("  cell place of FTOI", UINT64_C(0x00052E0000000000), history[4]);
     check("  step place of FTOI", UINT64_C(0x8020040000400000), history[5]);
     check("  step-back", 0, step_back());
     check_cell("  before FTOI", 0, SAM_FLOAT, 0x4B800000);
@@ -561,7 +567,8 @@ static void test_conversions_back(void) {
 /* ---- request f: the dwell reader of the door board */
 
 static uint32_t dwell(void) {
-    return sam_dwell(table, SAM_TABLE_PLACES, length, registers, SAM_REGISTERS, bits, n, tags, n, history, h, told, 1);
+    return sam_dwell(table, SAM_TABLE_PLACES, length, registers, SAM_REGISTERS, bits, n, tags, n, history, h, output,
+                     output_len, told, 1);
 }
 
 /* The number and the tenths, and that nothing else is written. */
@@ -657,6 +664,7 @@ static const struct { const char *source; uint32_t ending, number; } refused_dwe
     {"PUSHIMMPA 0 STOP", 0, 62},
     {"JSR 1 STOP", 0, 62},
     {"PUSHSP PUSHIMM 40 STOP", 0, 62},
+    {"PUSHIMMCH 40 STOP", 0, 62},
     {"PUSHIMMF #7FC00000 STOP", 0, 63},
     {"PUSHIMMF #7F800001 STOP", 0, 63},
     {"PUSHIMMF #7FFFFFFF STOP", 0, 63},
@@ -704,7 +712,7 @@ static void test_order_of_dwell(void) {
         tags[0] = orders[i].tag;
         bits[0] = orders[i].value;
         check_dwell(orders[i].name, orders[i].number, orders[i].tenths);
-        tags[3] = 4;
+        tags[3] = 5;
         check_dwell("  10 before that", 10, 0);
         tags[3] = SAM_INT;
     }
@@ -735,8 +743,8 @@ static void test_dwell_with_any_history(void) {
 }
 
 static uint32_t dwell_with(size_t registers_len, size_t tags_len, size_t places, size_t told_len) {
-    return sam_dwell(table, places, length, registers, registers_len, bits, n, tags, tags_len, history, h, told,
-                     told_len);
+    return sam_dwell(table, places, length, registers, registers_len, bits, n, tags, tags_len, history, h, output,
+                     output_len, told, told_len);
 }
 
 static void test_lengths_of_dwell(void) {
@@ -926,7 +934,7 @@ static void test_kept_of_series(void) {
 
 /* Records made by hand, of a step with SP 1: one that wrote no cell, and one that wrote cell 0, where INT 40 stood. */
 #define STEP_PLACE (UINT64_C(1) << 63 | UINT64_C(1) << 42)
-static const uint64_t short_record[] = {STEP_PLACE}, long_record[] = {UINT64_C(40) << 19, STEP_PLACE | 1 << 22};
+static const uint64_t short_record[] = {STEP_PLACE}, long_record[] = {UINT64_C(40) << 18, STEP_PLACE | 1 << 22};
 
 /* A machine with such records from the top of its places in use down, and any kept number. */
 static void make_by_hand(size_t places, uint64_t used, uint64_t kept, const uint64_t *record, uint64_t size) {
@@ -1099,8 +1107,8 @@ static void test_told_of_writers(void) {
 }
 
 static uint32_t run_with(uint64_t limit, size_t registers_len, size_t told_len) {
-    return sam_run(table, SAM_TABLE_PLACES, length, limit, registers, registers_len, bits, n, tags, n, history, h, told,
-                   told_len);
+    return sam_run(table, SAM_TABLE_PLACES, length, limit, registers, registers_len, bits, n, tags, n, history, h,
+                   output, output_len, told, told_len);
 }
 
 static const uint64_t limits[] = {0, 9, SAM_RUN_LIMIT, SAM_RUN_LIMIT + 1, UINT64_MAX};
@@ -1127,15 +1135,17 @@ static void check_runs_with(size_t registers_len) {
     }
 }
 
-static uint32_t reset_with(size_t places, size_t registers_len, size_t cells, size_t tag_count, size_t history_len) {
+static uint32_t reset_with(size_t places, size_t registers_len, size_t cells, size_t tag_count, size_t history_len,
+                           size_t size) {
     return sam_reset(table, places, length, registers, registers_len, bits, cells, tags, tag_count, history,
-                     history_len);
+                     history_len, output, size);
 }
 
-/* Cells, tags and history places, and the number of a reset that has them, but not eight registers. */
-static const struct { size_t cells, tag_count, history_len; uint32_t number; } reset_sizes[] = {
-    {0, 0, 0, 11}, {0, 0, 8, 11}, {1001, 1001, 0, 11}, {4, 3, 8, 11}, {4, 5, 8, 11}, {4, 4, 8193, 11},
-    {1, 1, 0, 10}, {4, 4, 8, 10}, {1000, 1000, 8192, 10},
+/* Cells, tags, history places and output, and the number of a reset that has them, but not nine registers. */
+static const struct { size_t cells, tag_count, history_len, size; uint32_t number; } reset_sizes[] = {
+    {0, 0, 0, 0, 11}, {0, 0, 8, 1, 11}, {1001, 1001, 0, 8, 11}, {4, 3, 8, 256, 11}, {4, 5, 8, 0, 11},
+    {4, 4, 8193, 8, 11}, {4, 4, 8, 257, 11}, {1, 1, 0, 257, 11},
+    {1, 1, 0, 0, 10}, {4, 4, 8, 1, 10}, {1000, 1000, 8192, 256, 10},
 };
 
 /* With a table, and without one, which is 10 too. */
@@ -1144,17 +1154,19 @@ static void check_resets_with(size_t registers_len) {
         for (size_t places = 0; places <= SAM_TABLE_PLACES; places += SAM_TABLE_PLACES) {
             check("  11 or 10 of a reset", reset_sizes[i].number,
                   reset_with(places, registers_len, reset_sizes[i].cells, reset_sizes[i].tag_count,
-                             reset_sizes[i].history_len));
+                             reset_sizes[i].history_len, reset_sizes[i].size));
         }
     }
 }
 
 static void check_steps_with(size_t len) {
-    check("  step", 10, sam_step(table, SAM_TABLE_PLACES, length, registers, len, bits, n, tags, n, history, h));
-    check("  back", 10, sam_step_back(table, SAM_TABLE_PLACES, length, registers, len, bits, n, tags, n, history, h));
+    check("  step", 10, sam_step(table, SAM_TABLE_PLACES, length, registers, len, bits, n, tags, n, history, h, output,
+                                 output_len));
+    check("  back", 10, sam_step_back(table, SAM_TABLE_PLACES, length, registers, len, bits, n, tags, n, history, h,
+                                      output, output_len));
 }
 
-/* With eight registers, a told of one and nothing beyond its sizes each call would be done. */
+/* With nine registers, a told of one and nothing beyond its sizes each call would be done. */
 static void test_lengths_of_machine_calls(void) {
     begin("PUSHIMMF 2.5 STOP", 4, 8);
     check("  step", 0, step());
@@ -1168,7 +1180,7 @@ static void test_lengths_of_machine_calls(void) {
             check_steps_with(len);
         }
         check_unchanged("  nothing changed");
-        check("  the ninth", MARK, registers[SAM_REGISTERS]);
+        check("  the tenth", MARK, registers[SAM_REGISTERS]);
     }
     check("  step", 0, step());
 }
@@ -1218,12 +1230,12 @@ static void test_reset(void) {
     check("  1,001 cells", 11, reset(1001, 0));
     check("  8,193 places", 11, reset(1, 8193));
     for (size_t i = 0; i < SAM_REGISTERS; i++) registers[i] = 9;
-    check("  one tag too few", 11, reset_with(SAM_TABLE_PLACES, SAM_REGISTERS, 4, 3, 0));
+    check("  one tag too few", 11, reset_with(SAM_TABLE_PLACES, SAM_REGISTERS, 4, 3, 0, 1));
     for (size_t i = 0; i < SAM_REGISTERS; i++) check("  zero", 0, registers[i]);
     check("  cell 0", 5, bits[0]);
-    check("  11 before 10", 11, reset_with(0, SAM_REGISTERS, 0, 0, 0));
+    check("  11 before 10", 11, reset_with(0, SAM_REGISTERS, 0, 0, 0, 0));
     registers[SAM_KEPT] = 9;
-    check("  no table", 10, reset_with(0, SAM_REGISTERS, 4, 4, 0));
+    check("  no table", 10, reset_with(0, SAM_REGISTERS, 4, 4, 0, 1));
     check("  kept", 0, registers[SAM_KEPT]);
     registers[SAM_KEPT] = 9;
     check("  largest", 0, reset(1000, 8192));
@@ -1231,6 +1243,22 @@ static void test_reset(void) {
     check("  H", 8192, registers[SAM_H_PLACES]);
     check("  kept", 0, registers[SAM_KEPT]);
     check("  cell 0", 0, bits[0]);
+    puts("reset: the output");
+    memset(output, MARK, sizeof output);
+    registers[SAM_WRITTEN] = 9;
+    check("  257 bytes", 11, reset_with(SAM_TABLE_PLACES, SAM_REGISTERS, 4, 4, 8, 257));
+    check("  written", 0, registers[SAM_WRITTEN]);
+    check("  11 before 10", 11, reset_with(0, SAM_REGISTERS, 4, 4, 8, 257));
+    check("  no table", 10, reset_with(0, SAM_REGISTERS, 4, 4, 8, 256));
+    check("  bytes changed", 0, others(output, sizeof output, MARK));
+    for (size_t size = 0; size <= SAM_OUTPUT_LIMIT; size += 128) {
+        memset(output, MARK, sizeof output);
+        registers[SAM_WRITTEN] = 9;
+        check("  done", 0, reset_with(SAM_TABLE_PLACES, SAM_REGISTERS, 4, 4, 8, size));
+        check("  written", 0, registers[SAM_WRITTEN]);
+        check("  bytes not zero", 0, others(output, size, 0));
+        check("  bytes changed elsewhere", 0, others(output + size, sizeof output - size, MARK));
+    }
 }
 
 /* One value broken, the call, and the value set right again. */
@@ -1260,13 +1288,19 @@ static void test_broken(void) {
     broken("  kept above U", &registers[SAM_KEPT], 3);
     broken("  kept 0 with U above 0", &registers[SAM_KEPT], 0);
     broken("  length", &length, 1025);
-    broken("  code", &table[0], UINT64_C(52) << 32);
+    broken("  written above the output", &registers[SAM_WRITTEN], SAM_OUTPUT_LIMIT + 1);
+    broken("  code", &table[0], UINT64_C(54) << 32);
     broken("  ITOF with an operand", &table[0], UINT64_C(50) << 32 | 1);
     broken("  FTOI with an operand", &table[0], UINT64_C(51) << 32 | 1);
+    broken("  PUSHIMMCH 128", &table[0], UINT64_C(52) << 32 | 128);
+    broken("  WRITECH with an operand", &table[0], UINT64_C(53) << 32 | 1);
     broken("  unused place", &table[1023], 1);
-    tags[3] = 4;
-    check("  tag 4", 10, step());
-    check_dwell("  tag 4", 10, 0);
+    tags[3] = 5;
+    check("  tag 5", 10, step());
+    check_dwell("  tag 5", 10, 0);
+    tags[3] = SAM_CH, bits[3] = 128;
+    check("  CH above 127", 10, step());
+    check_dwell("  CH above 127", 10, 0);
     tags[3] = SAM_PA, bits[3] = 3;
     check("  PA above length", 10, step());
     check_dwell("  PA above length", 10, 0);
@@ -1403,6 +1437,277 @@ static void test_refused_decimals(void) {
     check_told(1, 0, 0, 0);
 }
 
+/* ---- request h: characters for the landing panel */
+
+static void check_output(const char *name, const char *bytes, size_t count) {
+    check(name, count, registers[SAM_WRITTEN]);
+    check(name, 0, (uint64_t)(memcmp(output, bytes, count) != 0));
+}
+
+#define LOBBY \
+    "PUSHIMM 40 PUSHIMMCH 76 WRITECH PUSHIMMCH 79 WRITECH PUSHIMMCH 66 DUP WRITECH WRITECH PUSHIMMCH 89 WRITECH STOP"
+
+/* A word over a dwell; then every step is taken back, and each WRITECH takes its byte with it. */
+static void test_word(void) {
+    static const uint64_t written_after[] = {0, 0, 0, 1, 1, 2, 2, 2, 3, 4, 4, 5, 5}; /* so many steps */
+    puts("the word LOBBY on the panel, and all of it taken back");
+    output_len = 8;
+    begin(LOBBY, 4, 64);
+    check("  tag of a character", 4, SAM_CH);
+    for (uint64_t steps = 0; steps < 12; steps++) {
+        check_output("  written", "LOBBY", written_after[steps]);
+        check("  step", 0, step());
+    }
+    check_output("  written", "LOBBY", 5);
+    check_dwell("  read", 0, 40);
+    for (uint64_t steps = 12; steps-- > 0;) {
+        check("  step-back", 0, step_back());
+        check_output("  written", "LOBBY", written_after[steps]);
+        check("  the rest zero", 0, others(output + written_after[steps], 8 - written_after[steps], 0));
+    }
+    check("  step-back with U = 0", 9, step_back());
+    check("  run", 0, run(100));
+    check("  steps", 12, told[0]);
+    check_output("  written", "LOBBY", 5);
+}
+
+/* The record of WRITECH has one place, and popped cells keep their contents. */
+static void test_record_of_writing(void) {
+    puts("the records of PUSHIMMCH and WRITECH");
+    output_len = 2;
+    begin("PUSHIMMCH 72 WRITECH PUSHIMMCH 73", 4, 5);
+    check("  run", 50, run(3));
+    check("  cell place of the first", 0, history[0]);
+    check("  its step place", UINT64_C(0x8000000000400000), history[1]);
+    check("  step place of WRITECH", UINT64_C(0x8010040000000000), history[2]);
+    check("  cell place of the second", UINT64_C(0x0010000001200000), history[3]); /* tag 4, bits 72 */
+    check("  its step place", UINT64_C(0x8020000000400000), history[4]);
+    check_cell("  cell 0", 0, SAM_CH, 73);
+    check("  step-back", 0, step_back());
+    check_cell("  cell 0", 0, SAM_CH, 72);
+}
+
+/* WRITECH STOP with one value, live or not, an output, and H with U of records of one place: the number of a step. */
+static const struct {
+    uint8_t tag;
+    uint64_t sp;
+    size_t size;
+    uint64_t written;
+    size_t places;
+    uint64_t used;
+    uint32_t number;
+} writings[] = {
+    {SAM_CH, 0, 1, 1, 8, 8, 3}, {SAM_CH, 0, 1, 1, 0, 0, 3}, {SAM_CH, 0, 1, 0, 8, 8, 3}, {SAM_INT, 0, 0, 0, 0, 0, 3},
+    {SAM_INT, 1, 1, 1, 8, 8, 4}, {SAM_FLOAT, 1, 1, 1, 8, 8, 4}, {SAM_MA, 1, 0, 0, 0, 0, 4}, {SAM_PA, 1, 1, 1, 0, 0, 4},
+    {SAM_INT, 1, 1, 0, 8, 8, 4}, {SAM_INT, 1, 1, 0, 8, 0, 4},
+    {SAM_CH, 1, 1, 1, 8, 8, 12}, {SAM_CH, 1, 1, 1, 8, 0, 12}, {SAM_CH, 1, 1, 1, 0, 0, 12},
+    {SAM_CH, 1, 0, 0, 8, 8, 12}, {SAM_CH, 1, 0, 0, 0, 0, 12}, {SAM_CH, 1, 256, 256, 8, 8, 12},
+    {SAM_CH, 1, 1, 0, 8, 8, 8}, {SAM_CH, 1, 256, 255, 1, 1, 8},
+    {SAM_CH, 1, 1, 0, 8, 7, 0}, {SAM_CH, 1, 256, 0, 0, 0, 0}, {SAM_CH, 1, 256, 255, 1, 0, 0},
+};
+
+static void test_writings(void) {
+    puts("3, 4, 12 and 8 of WRITECH");
+    for (size_t i = 0; i < sizeof writings / sizeof writings[0]; i++) {
+        output_len = writings[i].size;
+        begin("WRITECH STOP", 4, writings[i].places);
+        memset(output, MARK, sizeof output);
+        tags[0] = writings[i].tag, bits[0] = 2;
+        for (uint64_t j = 0; j < writings[i].used; j++) history[j] = STEP_PLACE;
+        registers[SAM_SP] = writings[i].sp;
+        registers[SAM_WRITTEN] = writings[i].written;
+        registers[SAM_U] = registers[SAM_KEPT] = writings[i].used;
+        if (writings[i].number != 0) {
+            check_refused_again(writings[i].number);
+            continue;
+        }
+        check("  step", 0, step());
+        check("  written", writings[i].written + 1, registers[SAM_WRITTEN]);
+        check("  the byte", 2, output[writings[i].written]);
+        check("  other bytes", 1, others(output, sizeof output, MARK));
+        check("  U", writings[i].used + (writings[i].places > 0), registers[SAM_U]);
+    }
+}
+
+/* A source, the bytes of output lent, the number that ends its run, its steps and what is written then. */
+static const struct {
+    const char *source;
+    size_t size;
+    uint32_t number;
+    uint64_t steps;
+    const char *written;
+} shown[] = {
+    {"PUSHIMMCH 72 WRITECH PUSHIMMCH 73 WRITECH STOP", 256, 0, 5, "HI"},
+    {"PUSHIMMCH 73 PUSHIMMCH 72 WRITECH WRITECH STOP", 2, 0, 5, "HI"},
+    {"PUSHIMMCH 72 WRITECH PUSHIMMCH 73 WRITECH STOP", 1, 12, 3, "H"},
+    {"PUSHIMMCH 72 WRITECH", 0, 12, 1, ""},
+    {"PUSHIMMCH 72 a: DUP WRITECH JUMP a", 3, 12, 11, "HHH"},
+    {"PUSHIMMCH 72 WRITECH WRITECH", 9, 3, 2, "H"},
+    {"PUSHIMMCH 72 WRITECH PUSHIMM 73 WRITECH", 9, 4, 3, "H"},
+    {"PUSHIMMCH 127 DUP ISNIL JUMPC 0 WRITECH", 9, 2, 5, "\x7F"},
+    {"PUSHIMMCH 72 PUSHIMMCH 72 EQUAL JUMPC yes STOP yes: PUSHIMMCH 89 WRITECH STOP", 9, 0, 7, "Y"},
+    {"PUSHIMMCH 1 PUSHIMM 1 EQUAL JUMPC yes STOP yes: PUSHIMMCH 89 WRITECH STOP", 9, 0, 5, ""},
+    {"PUSHIMMCH 0 ISNIL JUMPC yes STOP yes: PUSHIMMCH 89 WRITECH STOP", 9, 0, 6, "Y"},
+    {"PUSHIMM 5 PUSHIMMCH 72 STOREOFF 0 PUSHOFF 0 WRITECH WRITECH STOP", 9, 0, 7, "HH"},
+    {"PUSHIMMCH 1 PUSHIMMCH 1 ADD", 9, 4, 2, ""},
+    {"PUSHIMMCH 1 ITOF", 9, 4, 1, ""},
+};
+
+static void test_shown(void) {
+    for (size_t i = 0; i < sizeof shown / sizeof shown[0]; i++) {
+        for (size_t places = 0; places <= 64; places += 64) {
+            printf("%s, H = %zu\n", shown[i].source, places);
+            output_len = shown[i].size;
+            memset(output, MARK, sizeof output);
+            begin(shown[i].source, 16, places);
+            check("  output zeroed", 0, others(output, output_len, 0));
+            check("  run", shown[i].number, run(100));
+            check("  steps", shown[i].steps, told[0]);
+            check_output("  written", shown[i].written, strlen(shown[i].written));
+            check("  beyond the output", 0, others(output + output_len, sizeof output - output_len, MARK));
+        }
+    }
+}
+
+/* Bytes of the output and a written count that are refused: too long, or a count above the length. */
+static const struct { size_t size; uint64_t written; } broken_outputs[] = {
+    {257, 0}, {257, 257}, {0, 1}, {0, 256}, {0, UINT64_MAX}, {1, 2}, {1, 257}, {1, (UINT64_C(1) << 32) + 1},
+    {255, 256}, {256, 257}, {256, 512}, {256, UINT64_C(1) << 63},
+};
+
+static void test_broken_outputs(void) {
+    for (size_t i = 0; i < sizeof broken_outputs / sizeof broken_outputs[0]; i++) {
+        printf("an output of %zu bytes, %llu written\n", broken_outputs[i].size,
+               (unsigned long long)broken_outputs[i].written);
+        output_len = 8;
+        begin("JUMP 1 STOP", 4, 8);
+        check("  step", 0, step());
+        output_len = broken_outputs[i].size;
+        registers[SAM_WRITTEN] = broken_outputs[i].written;
+        check_all_refused();
+    }
+    puts("any bytes, and any count up to the length");
+    for (output_len = 0; output_len <= SAM_OUTPUT_LIMIT; output_len += 128) {
+        for (uint64_t written = 0; written <= output_len; written += 64) {
+            begin("JUMP 1 STOP", 4, 8);
+            memset(output, 0xFF, output_len);
+            registers[SAM_WRITTEN] = written;
+            check("  step", 0, step());
+            check("  step-back", 0, step_back());
+            check("  run", 0, run(9));
+            check("  written", written, registers[SAM_WRITTEN]);
+            check("  the bytes", 0, others(output, output_len, 0xFF));
+        }
+    }
+    output_len = SAM_OUTPUT_LIMIT;
+}
+
+/* Tags and bits of a cell: 10 or done, live and dead. */
+static const struct { uint8_t tag; uint32_t value, number; } odd_cells[] = {
+    {SAM_CH, 0, 0}, {SAM_CH, 127, 0}, {SAM_CH, 128, 10}, {SAM_CH, 255, 10}, {SAM_CH, 256, 10},
+    {SAM_CH, UINT32_MAX, 10}, {5, 0, 10}, {5, 76, 10}, {7, 0, 10}, {255, 0, 10},
+};
+
+static void test_odd_cells(void) {
+    for (size_t i = 0; i < sizeof odd_cells / sizeof odd_cells[0]; i++) {
+        for (uint64_t sp = 0; sp <= 1; sp++) {
+            printf("tag %u, bits %lu, SP %llu\n", odd_cells[i].tag, (unsigned long)odd_cells[i].value,
+                   (unsigned long long)sp);
+            begin("JUMP 1 STOP", 4, 8);
+            check("  step", 0, step());
+            tags[0] = odd_cells[i].tag, bits[0] = odd_cells[i].value;
+            registers[SAM_SP] = sp;
+            if (odd_cells[i].number == 10) check_all_refused();
+            else check("  run", 0, run(9));
+            if (odd_cells[i].number == 0) check_dwell("  dwell", sp == 0 ? 61 : 62, 0);
+        }
+    }
+}
+
+/* A record made by hand of a step at this PC of WRITECH STOP, where one byte is written or none; it restores cell 1
+ * with this tag and these bits, or no cell. */
+static const struct { uint64_t pc, cells; uint64_t tag, value, written; uint32_t number; } records[] = {
+    {0, 0, 0, 0, 1, 0}, {0, 0, 0, 0, 0, 10}, {1, 0, 0, 0, 1, 0}, {1, 0, 0, 0, 0, 0},
+    {0, 1, SAM_FLOAT, 5, 1, 0}, {0, 1, SAM_FLOAT, 5, 0, 10}, {1, 1, SAM_FLOAT, 5, 0, 0},
+    {0, 1, SAM_CH, 127, 1, 0}, {0, 1, SAM_CH, 128, 1, 10}, {1, 1, SAM_CH, 127, 1, 0}, {1, 1, SAM_CH, 128, 1, 10},
+    {1, 1, SAM_CH, UINT32_MAX, 1, 10}, {1, 1, 5, 0, 1, 10}, {1, 1, 7, 0, 1, 10}, {0, 1, 5, 0, 1, 10},
+};
+
+static void make_record(size_t i) {
+    begin("WRITECH STOP", 4, 8);
+    memset(output, MARK, sizeof output);
+    if (records[i].cells == 1) history[0] = UINT64_C(1) << 53 | records[i].tag << 50 | records[i].value << 18;
+    history[records[i].cells] = STEP_PLACE | records[i].pc << 52 | records[i].cells << 22;
+    registers[SAM_WRITTEN] = records[i].written;
+    registers[SAM_U] = records[i].cells + 1;
+    registers[SAM_KEPT] = 1;
+}
+
+static void test_records_of_writing(void) {
+    puts("step-backs of records made by hand");
+    output_len = 4;
+    for (size_t i = 0; i < sizeof records / sizeof records[0]; i++) {
+        bool is_dropped = records[i].number == 0 && records[i].pc == 0;
+        make_record(i);
+        remember();
+        check("  step-back", records[i].number, step_back());
+        if (records[i].number != 0) {
+            check_unchanged("  nothing changed");
+            continue;
+        }
+        check("  written", records[i].written - is_dropped, registers[SAM_WRITTEN]);
+        check("  bytes zeroed", is_dropped, others(output, sizeof output, MARK));
+        if (is_dropped) check("  the last", 0, output[0]);
+        if (records[i].cells == 1) check_cell("  restored", 1, (uint8_t)records[i].tag, (uint32_t)records[i].value);
+    }
+    for (int bit = 0; bit < 18; bit++) {
+        make_record(4);
+        history[0] |= UINT64_C(1) << bit;
+        check("  a zero of the cell place", 10, step_back());
+    }
+    output_len = SAM_OUTPUT_LIMIT;
+}
+
+/* An operand of PUSHIMMCH, and what becomes of it; the place of the operand is 15, in line 2 and column 11. */
+static const struct { const char *operand; uint32_t number; uint64_t made; } character_operands[] = {
+    {"0", 0, 0}, {"127", 0, 127}, {"-0", 0, 0}, {"007", 0, 7}, {"0000000127", 0, 127},
+    {"128", 25, 0}, {"-1", 25, 0}, {"256", 25, 0}, {"4294967296", 25, 0}, {"00000000076", 25, 0},
+    {"-00000000000", 25, 0},
+    {"L", 33, 0}, {"#4C", 33, 0}, {"7.6", 33, 0}, {"-", 33, 0}, {"76:", 33, 0}, {"128:", 33, 0}, {"76x", 33, 0},
+};
+
+static void test_characters(void) {
+    static const char *listing = "PUSHIMMCH 7\nPUSHIMMCH 0\nPUSHIMMCH 127\nWRITECH\n";
+    char source[64];
+    puts("PUSHIMMCH and WRITECH as text, table and image");
+    for (size_t i = 0; i < sizeof character_operands / sizeof character_operands[0]; i++) {
+        sprintf(source, "STOP\nPUSHIMMCH %s", character_operands[i].operand);
+        if (character_operands[i].number != 0) {
+            refused(source, character_operands[i].number, 15, 2, 11);
+            continue;
+        }
+        check(source, 0, assemble(source));
+        check("  the place", UINT64_C(52) << 32 | character_operands[i].made, table[1]);
+    }
+    refused("PUSHIMMCH", 24, 9, 1, 10);
+    refused("WRITECH 76", 23, 8, 1, 9);
+    check("  assemble", 0, assemble("PUSHIMMCH 007 PUSHIMMCH -0 PUSHIMMCH 127 WRITECH"));
+    check("  code of WRITECH", UINT64_C(53) << 32, table[3]);
+    check("  list", 0, list());
+    check("  length", strlen(listing), told[0]);
+    check("  the text", 0, (uint64_t)(memcmp(text, listing, strlen(listing) + 1) != 0));
+    check("  assemble", 0, assemble("PUSHIMMCH 127 WRITECH"));
+    check("  pack", 0, sam_pack(table, SAM_TABLE_PLACES, length, image, SAM_IMAGE_BYTES, told, 1));
+    check("  length", 4, told[0]);
+    check("  seven bits", 0, (uint64_t)(memcmp(image, "\x00\x5A\x7F\xD4", 5) != 0));
+    check("  unpack", 0, sam_unpack(image, 4, made_table, SAM_TABLE_PLACES, told, 1));
+    check("  the same table", 0, (uint64_t)(memcmp(made_table, table, sizeof table - sizeof table[0]) != 0));
+    check("  ends early", 41, sam_unpack(image, 3, made_table, SAM_TABLE_PLACES, told, 1));
+    table[0]++;
+    check("  operand 128", 10, sam_pack(table, SAM_TABLE_PLACES, length, image, SAM_IMAGE_BYTES, told, 1));
+    check("  operand 128", 10, list());
+}
+
 /* ---- lists and images */
 
 static void test_list(void) {
@@ -1442,7 +1747,11 @@ static void test_images(void) {
     check("  ITOF", UINT64_C(50) << 32, table[0]);
     check("  code 51", 0, unpack("\x00\x39\x80", 3));
     check("  FTOI", UINT64_C(51) << 32, table[0]);
-    check("  code 52", 43, unpack("\x00\x3A\x00", 3));
+    check("  code 52", 0, unpack("\x00\x3A\x48", 3));
+    check("  PUSHIMMCH 72", UINT64_C(52) << 32 | 72, table[0]);
+    check("  code 53", 0, unpack("\x00\x3A\x80", 3));
+    check("  WRITECH", UINT64_C(53) << 32, table[0]);
+    check("  code 54", 43, unpack("\x00\x3B\x00", 3));
     check("  code 63", 43, unpack("\x00\x3F\x80", 3));
     check("  ADDSP 1000", 44, unpack("\x00\x33\xBE\x80", 4));
     check("  padding", 45, unpack("\x00\x01", 2));
@@ -1484,6 +1793,14 @@ int main(void) {
     test_refused_sources();
     test_refused_lines();
     test_refused_decimals();
+    test_word();
+    test_record_of_writing();
+    test_writings();
+    test_shown();
+    test_broken_outputs();
+    test_odd_cells();
+    test_records_of_writing();
+    test_characters();
     test_list();
     test_images();
     printf("%u checks, %u failed\n", checks, failed);

@@ -1,7 +1,7 @@
 /* The SaM machine for C: every call of the proved library, with numbers and lent memory only.
  *
  * Link target/staticlib/libsam_c.a. Every call gives a number of document 01, with what requests a (24, 33), d (6),
- * e (5, 25, 33, 43), f (60 to 63) and g (10) add:
+ * e (5, 25, 33), f (60 to 63), g (10) and h (10, 11, 12, 43) add:
  *
  *    0  done, or a run found HALT 1
  *    1  step with HALT 1
@@ -13,8 +13,11 @@
  *    7  new SP would be N or more
  *    8  H above 0 and fewer than (cells written + 1) places free
  *    9  step-back with U = 0
- *   10  broken state or table; a kept number above U, or 0 with U above 0, is a broken state
- *   11  at reset N or H outside the sizes below, or cells and tags of unequal count; at a run a limit above 1,000,000
+ *   10  broken state or table; a kept number above U, or 0 with U above 0, is a broken state, and so is an output above
+ *       256 bytes or a written count above its length
+ *   11  at reset N, H or the output outside the sizes below, or cells and tags of unequal count; at a run a limit above
+ *       1,000,000
+ *   12  WRITECH with a full output; it comes after 7 and before 8
  *   21  source too long                       26  label twice
  *   22  forbidden byte                        27  label unknown
  *   23  no instruction or label here          28  too many instructions
@@ -23,7 +26,7 @@
  *   31  lent output not of its exact length   33  operand of wrong form
  *   41  image ends early                      44  operand out of range
  *   42  count above 1,024                     45  padding not zero or bytes left over
- *   43  code above 51
+ *   43  code above 53
  *   50  run limit reached
  *   60  dwell of a machine that is not halted 62  cell 0 neither INT nor FLOAT
  *   61  SP is 0                               63  cell 0 a NaN
@@ -37,7 +40,7 @@
  *
  * Assemble, list, pack and unpack write an output: a table, a text, an image. Refused, for a `told` of another length
  * too, they leave an output of wrong length untouched and zero one of right length. A refused step, step-back, reset or
- * run-entry changes no cell, tag or history place.
+ * run-entry changes no cell, tag, history place or byte of the machine's output.
  */
 #ifndef SAM_H
 #define SAM_H
@@ -56,6 +59,7 @@ enum {
     SAM_IMAGE_BYTES = 4866,    /* bytes of a packed image: its exact length */
     SAM_CELL_LIMIT = 1000,     /* N is 1 to this */
     SAM_HISTORY_LIMIT = 8192,  /* H is 0 to this; H = 0 keeps no history */
+    SAM_OUTPUT_LIMIT = 256,    /* bytes of a machine's output are 0 to this; one of 0 bytes is full */
     SAM_RUN_LIMIT = 1000000,   /* steps of one run */
     SAM_DWELL_SHORTEST = 10,   /* a dwell is this many tenths of a second at least, */
     SAM_DWELL_LONGEST = 300    /* and this many at most */
@@ -76,13 +80,13 @@ enum {
     SAM_DWELL_STACK = 512
 };
 
-/* The registers are a lent slice of eight. Registers of another length are a 10 in 10's place, so after 11 at a reset and
+/* The registers are a lent slice of nine. Registers of another length are a 10 in 10's place, so after 11 at a reset and
  * a run, and stay as they are. SAM_KEPT is how many steps can be taken back: after a reset the steps accepted less the
- * step-backs accepted, and 0 where H is 0. */
-enum { SAM_N, SAM_H_PLACES, SAM_PC, SAM_SP, SAM_FBR, SAM_HALT, SAM_U, SAM_KEPT, SAM_REGISTERS };
+ * step-backs accepted, and 0 where H is 0. SAM_WRITTEN is how many bytes of the output are in use, from the first. */
+enum { SAM_N, SAM_H_PLACES, SAM_PC, SAM_SP, SAM_FBR, SAM_HALT, SAM_U, SAM_KEPT, SAM_WRITTEN, SAM_REGISTERS };
 
-/* The tag of a cell. */
-enum { SAM_INT, SAM_FLOAT, SAM_MA, SAM_PA };
+/* The tag of a cell. A CH is a character code, 0 to 127. */
+enum { SAM_INT, SAM_FLOAT, SAM_MA, SAM_PA, SAM_CH };
 
 /* What assemble tells: the program's length; and where a refusal stands in the source, by its place, a count of bytes
  * from 0, and by its line and column, both from 1. A line ends with LF; a column counts bytes, CR among them. */
@@ -107,33 +111,39 @@ uint32_t sam_pack(const uint64_t *table, size_t places, uint64_t length, uint8_t
 uint32_t sam_unpack(const uint8_t *image, size_t image_len, uint64_t *table, size_t places, uint64_t *told,
                     size_t told_len);
 
-/* Sets every cell to INT 0, every history place to 0, N and H to the lent counts and the other registers to 0.
- * 11 comes before 10. A refused reset leaves the cells and the history as they were and sets the registers, where they
- * are eight, to zero. */
-uint32_t sam_reset(const uint64_t *table, size_t places, uint64_t length, uint64_t *registers, size_t registers_len,
-                   uint32_t *bits, size_t n, uint8_t *tags, size_t tags_len, uint64_t *history, size_t h);
+/* The calls on a machine are lent its output, characters for the landing panel, after the history. WRITECH appends a
+ * byte to it, and the step-back of a WRITECH drops the last byte and zeroes it. What its bytes are is not judged. */
 
-/* Makes one step: 10, then 1 to 8 in order; a refused step changes nothing. */
+/* Sets every cell to INT 0, every history place and every byte of the output to 0, N and H to the lent counts and the
+ * other registers to 0. 11 comes before 10. A refused reset leaves cells, history and output as they were and sets the
+ * registers, where they are nine, to zero. */
+uint32_t sam_reset(const uint64_t *table, size_t places, uint64_t length, uint64_t *registers, size_t registers_len,
+                   uint32_t *bits, size_t n, uint8_t *tags, size_t tags_len, uint64_t *history, size_t h,
+                   uint8_t *output, size_t output_len);
+
+/* Makes one step: 10, then 1 to 7 in order, 12, 8; a refused step changes nothing. */
 uint32_t sam_step(const uint64_t *table, size_t places, uint64_t length, uint64_t *registers, size_t registers_len,
-                  uint32_t *bits, size_t n, uint8_t *tags, size_t tags_len, uint64_t *history, size_t h);
+                  uint32_t *bits, size_t n, uint8_t *tags, size_t tags_len, uint64_t *history, size_t h,
+                  uint8_t *output, size_t output_len);
 
 /* Takes the last step back: 10, then 9; a refused step-back changes nothing. */
 uint32_t sam_step_back(const uint64_t *table, size_t places, uint64_t length, uint64_t *registers,
                        size_t registers_len, uint32_t *bits, size_t n, uint8_t *tags, size_t tags_len,
-                       uint64_t *history, size_t h);
+                       uint64_t *history, size_t h, uint8_t *output, size_t output_len);
 
 /* Makes steps until HALT is 1 (0), the limit is made (50) or a step is refused (its number); 11, then 10 at its entry.
  * told[1]: the number of steps made, which stand. */
 uint32_t sam_run(const uint64_t *table, size_t places, uint64_t length, uint64_t limit, uint64_t *registers,
                  size_t registers_len, uint32_t *bits, size_t n, uint8_t *tags, size_t tags_len, uint64_t *history,
-                 size_t h, uint64_t *told, size_t told_len);
+                 size_t h, uint8_t *output, size_t output_len, uint64_t *told, size_t told_len);
 
 /* Reads how long the doors stay open off cell 0 of a halted machine, and writes nothing but told. An INT is tenths of a
  * second; a FLOAT is seconds, taken as the largest whole tenth that is not above them. Both are held between 10 and 300
  * tenths. 10 as for a step, then 60 to 63 in order. told[1]: the tenths, 0 where it is refused. */
 uint32_t sam_dwell(const uint64_t *table, size_t places, uint64_t length, const uint64_t *registers,
                    size_t registers_len, const uint32_t *bits, size_t n, const uint8_t *tags, size_t tags_len,
-                   const uint64_t *history, size_t h, uint64_t *told, size_t told_len);
+                   const uint64_t *history, size_t h, const uint8_t *output, size_t output_len, uint64_t *told,
+                   size_t told_len);
 
 #ifdef __cplusplus
 }

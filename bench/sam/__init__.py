@@ -1,4 +1,4 @@
-"""An interpreter of document 01 with requests a, b, d, e, f and g of document 02, written from the documents and
+"""An interpreter of document 01 with requests a, b, d, e, f, g and h of document 02, written from the documents and
 their settled readings, to compare the proved one with."""
 
 from .console import cell_line, console

@@ -1,14 +1,15 @@
-"""What each instruction does: document 01, "Instructions", and requests b, d and e of document 02.
+"""What each instruction does: document 01, "Instructions", and requests b, d, e and h of document 02.
 
-An action works on a Move: it takes values off, puts results on, and notes the cells it would write. Nothing of the
-machine changes until the whole step is accepted, so an action may refuse at any point.
+An action works on a Move: it takes values off, puts results on, and notes the cells and the character that it would
+write. Nothing of the machine changes until the whole step is accepted, so an action may refuse at any point.
 """
 
 from . import floats
 from .table import NAMES, WORD, signed
 
-INT, FLOAT, MA, PA = range(4)  # "Tags: INT 0, FLOAT 1, MA (memory address) 2, PA (program address) 3."
-ANY = (INT, FLOAT, MA, PA)
+# "Tags: INT 0, FLOAT 1, MA (memory address) 2, PA (program address) 3."; "tag CH (4)"
+INT, FLOAT, MA, PA, CH = range(5)
+ANY = (INT, FLOAT, MA, PA, CH)
 
 
 class Refusal(Exception):
@@ -16,7 +17,8 @@ class Refusal(Exception):
 
 
 class Move:
-    """One step in the making: the new registers, and the cells written as (address, tag, bits)."""
+    """One step in the making: the new registers, the cells written as (address, tag, bits), and the characters
+    appended to the output, of which there is at most one."""
 
     def __init__(self, state, operand):
         old = state.registers
@@ -25,6 +27,7 @@ class Move:
         self.old_pc = old.pc
         self.pc, self.sp, self.fbr, self.halt = old.pc + 1, old.sp, old.fbr, old.halt
         self.writes = []
+        self.appended = []
 
     def pop(self, *takes):
         """Takes one value off for each entry, which has the tags that it may have; the last is Vt.
@@ -185,6 +188,10 @@ def push_program_address(move):
     move.push(PA, move.operand)
 
 
+def push_character(move):
+    move.push(CH, move.operand)
+
+
 def duplicate(move):
     """ "DUP 1 (the copy)": the value below the copy is not written."""
     ((tag, bits),) = move.pop(ANY)
@@ -257,6 +264,15 @@ def store_offset(move):
     """ "STOREOFF 0 <= FBR+n < SP-1" """
     ((tag, bits),) = move.pop(ANY)
     move.write(check_address(move.fbr + signed(move.operand), move.sp), tag, bits)
+
+
+# ---- the output
+
+
+def write_character(move):
+    """ "pops a CH and appends it to a lent output"; "WRITECH writes no cell" """
+    ((_, character),) = move.pop((CH,))
+    move.appended.append(character)
 
 
 # ---- control
@@ -350,6 +366,8 @@ ACTION_BY_NAME = {
     "PUSHIMMPA": push_program_address,
     "ITOF": integer_to_float,
     "FTOI": float_to_integer,
+    "PUSHIMMCH": push_character,
+    "WRITECH": write_character,
 }
 
 ACTIONS = [ACTION_BY_NAME[name] for name in NAMES]

@@ -1,14 +1,14 @@
-"""The packer and the unpacker: document 01, "Image"."""
+"""The packer and the unpacker: document 01, "Image", and request h of document 02."""
 
-from .table import (INTEGER, KINDS, NAMES, NO_OPERAND, OFFSET, PATTERN, PROGRAM_LIMIT, TARGET, WORD, make_place,
-                    operand_in_range, signed, table_sound)
+from .table import (CHARACTER, INTEGER, KINDS, NAMES, NO_OPERAND, OFFSET, PATTERN, PROGRAM_LIMIT, TARGET, WORD,
+                    make_place, operand_in_range, signed, table_sound)
 
 IMAGE_SIZE = 4866  # "Output 4,866 bytes, rest zero, length told"
 COUNT_WIDTH = 11
 CODE_WIDTH = 6
 
-# "32 bits (codes 1, 2), 11 signed (39, 42, 43), 11 unsigned (targets) or none"
-OPERAND_WIDTH = {NO_OPERAND: 0, INTEGER: 32, PATTERN: 32, OFFSET: 11, TARGET: 11}
+# "32 bits (codes 1, 2), 11 signed (39, 42, 43), 11 unsigned (targets) or none"; PUSHIMMCH's "7 bits in the image"
+OPERAND_WIDTH = {NO_OPERAND: 0, INTEGER: 32, PATTERN: 32, OFFSET: 11, TARGET: 11, CHARACTER: 7}
 
 
 class Damaged(Exception):

@@ -1,13 +1,14 @@
-"""Reset, step, step-back and run: document 01, "Numbers given back" and "History places", and request g of document
-02."""
+"""Reset, step, step-back and run: document 01, "Numbers given back" and "History places", and requests g and h of
+document 02."""
 
 from dataclasses import dataclass, field, replace
 
-from .actions import ACTIONS, INT, PA, Move, Refusal
-from .table import WORD, table_sound
+from .actions import ACTIONS, CH, INT, PA, Move, Refusal
+from .table import CODES, LAST_CHARACTER, WORD, table_sound
 
 CELL_LIMIT = 1000  # "N cells, 1 to 1,000"
 HISTORY_LIMIT = 8192  # "History of H places, 0 to 8,192"
+OUTPUT_LIMIT = 256  # "a lent output of 0 to 256 bytes"
 RUN_LIMIT = 1000000  # "Run limit 0 to 1,000,000"
 
 
@@ -21,6 +22,7 @@ class Registers:
     halt: int = 0
     used: int = 0
     kept: int = 0  # how many steps can be taken back
+    written: int = 0  # bytes of the output in use
 
 
 @dataclass
@@ -31,11 +33,13 @@ class Program:
 
 @dataclass
 class State:
-    """A machine: its registers and the three lent lists. Calls change it in place."""
+    """A machine: its registers and what is lent to it, an output of 0 bytes where no other is. Calls change it in
+    place."""
 
     bits: list
     tags: list
     history: list
+    output: bytearray = field(default_factory=bytearray)
     registers: Registers = field(default_factory=Registers)
 
     def cell(self, address):
@@ -48,8 +52,8 @@ class State:
         self.tags[address], self.bits[address] = tag, bits
 
 
-def sizes_allowed(n, h):
-    return 1 <= n <= CELL_LIMIT and 0 <= h <= HISTORY_LIMIT
+def sizes_allowed(n, h, output_size):
+    return 1 <= n <= CELL_LIMIT and 0 <= h <= HISTORY_LIMIT and output_size <= OUTPUT_LIMIT
 
 
 # ---- 10
@@ -68,14 +72,26 @@ def kept_sound(registers):
 
 
 def slices_sound(state):
-    """ "a kept N or H outside "Sizes", or a lent slice not of its N or H" """
+    """ "a kept N or H outside "Sizes", or a lent slice not of its N or H"; request h: "10 elsewhere, for an output
+    above 256", whose length is kept nowhere"""
     n, h = state.registers.n, state.registers.h
-    return sizes_allowed(n, h) and len(state.bits) == n and len(state.tags) == n and len(state.history) == h
+    if not sizes_allowed(n, h, len(state.output)):
+        return False
+    return len(state.bits) == n and len(state.tags) == n and len(state.history) == h
+
+
+def written_sound(state):
+    """Request h: "10 for a used count above its length"; what the bytes are is not judged."""
+    return state.registers.written <= len(state.output)
 
 
 def cell_sound(tag, bits, length):
-    """ "a tag above 3; a PA cell above length" """
-    return tag <= PA and not (tag == PA and bits > length)
+    """ "a PA cell above length"; request h: "a cell's or restored tag above 4 or CH above 127" """
+    if tag == PA:
+        return bits <= length
+    if tag == CH:
+        return bits <= LAST_CHARACTER
+    return tag < CH
 
 
 def sound(program, state):
@@ -85,6 +101,7 @@ def sound(program, state):
         and slices_sound(state)
         and registers_sound(state.registers, program.length)
         and kept_sound(state.registers)
+        and written_sound(state)
         and all(cell_sound(tag, bits, program.length) for tag, bits in zip(state.tags, state.bits))
     )
 
@@ -93,8 +110,8 @@ def sound(program, state):
 
 
 def cell_place(address, tag, bits):
-    """ "0, address 10, old tag 2, old bits 32, 19 zeros" """
-    return address << 53 | tag << 51 | bits << 19
+    """ "0, address 10, old tag 2, old bits 32, 19 zeros"; request h: the tag "becomes 3 bits and its zeros 18" """
+    return address << 53 | tag << 50 | bits << 18
 
 
 def step_place(pc, sp, fbr, written):
@@ -103,7 +120,7 @@ def step_place(pc, sp, fbr, written):
 
 
 def split_cell_place(place):
-    return place >> 53 & 0x3FF, place >> 51 & 3, place >> 19 & 0xFFFFFFFF
+    return place >> 53 & 0x3FF, place >> 50 & 7, place >> 18 & 0xFFFFFFFF
 
 
 def split_step_place(place):
@@ -137,7 +154,8 @@ def top_record(state):
 
 
 def record_sound(record, n, length):
-    """ "old PC below length, SP, FBR and addresses below N, addresses rising strictly, restored PAs at most length" """
+    """ "old PC below length, SP, FBR and addresses below N, addresses rising strictly, restored PAs at most length";
+    request h: no "restored tag above 4 or CH above 127" """
     addresses = [address for address, _, _ in record.cells]
     return (
         record.pc < length
@@ -149,6 +167,11 @@ def record_sound(record, n, length):
     )
 
 
+def is_of_writing(record, program):
+    """Whether the instruction at its old PC, in the program as it is handed now, is a WRITECH."""
+    return program.table[record.pc] >> 32 == CODES["WRITECH"]
+
+
 # ---- the calls
 
 
@@ -156,19 +179,20 @@ def reset(program, state):
     """The number; the registers are zero where it is a refusal. "Reset: 11 before 10." """
     state.registers = Registers()
     n, h = len(state.bits), len(state.history)
-    if not sizes_allowed(n, h) or len(state.tags) != n:
+    if not sizes_allowed(n, h, len(state.output)) or len(state.tags) != n:
         return 11
     if not table_sound(program.table, program.length):
         return 10
     state.bits[:] = [0] * n
     state.tags[:] = [INT] * n
     state.history[:] = [0] * h
+    state.output[:] = bytes(len(state.output))  # "Reset zeroes that output and its used count."
     state.registers = Registers(n=n, h=h)
     return 0
 
 
 def decide(program, state):
-    """1 to 7 in order, or the move that the step makes."""
+    """1 to 7 in order, then 12, or the move that the step makes."""
     registers = state.registers
     if registers.halt:
         raise Refusal(1)
@@ -179,6 +203,8 @@ def decide(program, state):
     ACTIONS[place >> 32](move)
     if move.sp >= registers.n:
         raise Refusal(7)
+    if registers.written + len(move.appended) > len(state.output):  # "12 when the output is full"
+        raise Refusal(12)
     return move
 
 
@@ -191,7 +217,7 @@ def record_of(move, state):
 
 
 def plain_step(program, state):
-    """A step of a sound state: 1 to 8 in order."""
+    """A step of a sound state: 1 to 7 in order, 12, 8."""
     try:
         move = decide(program, state)
     except Refusal as refusal:
@@ -207,12 +233,15 @@ def plain_step(program, state):
         kept += 1
     for write in move.writes:
         state.set_cell(*write)
-    state.registers = replace(registers, pc=move.pc, sp=move.sp, fbr=move.fbr, halt=move.halt, used=used, kept=kept)
+    written = registers.written + len(move.appended)
+    state.output[registers.written : written] = bytes(move.appended)
+    made = replace(registers, pc=move.pc, sp=move.sp, fbr=move.fbr, halt=move.halt)
+    state.registers = replace(made, used=used, kept=kept, written=written)
     return 0
 
 
 def step(program, state):
-    """ "Step: 10, then 1 to 8 in order." """
+    """ "Step: 10, then 1 to 8 in order.", with 12 "after 7 and before 8" """
     return plain_step(program, state) if sound(program, state) else 10
 
 
@@ -235,7 +264,7 @@ def run(program, state, limit):
 
 def step_back(program, state):
     """ "Step-back: 10, then 9." In a sound state with U above 0 the kept number is above 0, and is lowered whatever it
-    was: it is not held to the history."""
+    was: it is not held to the history. So is the used count, at a WRITECH."""
     if not sound(program, state):
         return 10
     registers = state.registers
@@ -244,9 +273,15 @@ def step_back(program, state):
     record = top_record(state)
     if record is None or not record_sound(record, registers.n, program.length):
         return 10
+    written = registers.written
+    if is_of_writing(record, program):
+        if written == 0:  # "a top record at a WRITECH with nothing written"
+            return 10
+        written -= 1
+        state.output[written] = 0  # "its step-back drops and zeroes the last byte"
     for cell in record.cells:
         state.set_cell(*cell)
     state.history[record.start : registers.used] = [0] * (len(record.cells) + 1)
     back = replace(registers, pc=record.pc, sp=record.sp, fbr=record.fbr, halt=0)
-    state.registers = replace(back, used=record.start, kept=registers.kept - 1)
+    state.registers = replace(back, used=record.start, kept=registers.kept - 1, written=written)
     return 0

@@ -1,6 +1,6 @@
-"""The fifty-two instructions and the table of a program: what a place holds, and which tables are sound.
+"""The fifty-four instructions and the table of a program: what a place holds, and which tables are sound.
 
-Written from document 01, "Instructions" and "Text, table, image", and request e of document 02.
+Written from document 01, "Instructions" and "Text, table, image", and requests e and h of document 02.
 """
 
 PROGRAM_LIMIT = 1024  # "program 0 to 1,024 instructions"; a table has as many places
@@ -12,14 +12,17 @@ INTEGER = "integer"  # PUSHIMM: -2^31..2^31-1
 PATTERN = "pattern"  # PUSHIMMF: # and eight hex digits, or a decimal
 OFFSET = "offset"  # ADDSP, PUSHOFF, STOREOFF: -999..999
 TARGET = "target"  # a label or 0..length
+CHARACTER = "character"  # PUSHIMMCH: 0..127
 
-# "Codes in order from 0"; "ITOF (code 50)", "FTOI (code 51)"
+LAST_CHARACTER = 127  # "codes 0 to 127"
+
+# "Codes in order from 0"; "ITOF (code 50)", "FTOI (code 51)", "PUSHIMMCH n (code 52 [...])", "WRITECH (code 53)"
 NAMES = """
     STOP PUSHIMM PUSHIMMF DUP SWAP ADD SUB TIMES DIV MOD ADDF SUBF TIMESF DIVF
     AND OR NAND NOR XOR NOT BITAND BITOR BITNAND BITNOR BITXOR BITNOT
     CMP CMPF GREATER LESS EQUAL ISNIL ISPOS ISNEG
     PUSHSP POPSP PUSHFBR POPFBR LINK ADDSP PUSHIND STOREIND PUSHOFF STOREOFF
-    JUMP JUMPC JUMPIND JSR JSRIND PUSHIMMPA ITOF FTOI
+    JUMP JUMPC JUMPIND JSR JSRIND PUSHIMMPA ITOF FTOI PUSHIMMCH WRITECH
 """.split()
 
 CODES = {name: code for code, name in enumerate(NAMES)}
@@ -34,6 +37,7 @@ KIND_BY_NAME = {
     "JUMPC": TARGET,
     "JSR": TARGET,
     "PUSHIMMPA": TARGET,
+    "PUSHIMMCH": CHARACTER,
 }
 
 KINDS = [KIND_BY_NAME.get(name, NO_OPERAND) for name in NAMES]
@@ -57,6 +61,8 @@ def operand_in_range(kind, operand, length):
         return -999 <= signed(operand) <= 999
     if kind == TARGET:
         return operand <= length
+    if kind == CHARACTER:
+        return operand <= LAST_CHARACTER
     return True
 
 

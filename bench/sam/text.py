@@ -1,12 +1,12 @@
-"""The assembler and the lister: document 01, "Text, table, image", and requests a and e of document 02."""
+"""The assembler and the lister: document 01, "Text, table, image", and requests a, e and h of document 02."""
 
 import re
 from dataclasses import dataclass
 from fractions import Fraction
 
 from . import floats
-from .table import (CODES, INTEGER, KINDS, NAMES, NO_OPERAND, OFFSET, PATTERN, PROGRAM_LIMIT, TARGET, WORD, make_place,
-                    signed, table_sound)
+from .table import (CHARACTER, CODES, INTEGER, KINDS, LAST_CHARACTER, NAMES, NO_OPERAND, OFFSET, PATTERN,
+                    PROGRAM_LIMIT, TARGET, WORD, make_place, signed, table_sound)
 
 SOURCE_LIMIT = 65536  # "Source 0 to 65,536 bytes"
 LABEL_COUNT_LIMIT = 256
@@ -151,6 +151,8 @@ def read_operand(kind, stream, source_length):
         return pattern(token)
     if kind == OFFSET:
         return small_number(token, -999, 999)
+    if kind == CHARACTER:
+        return small_number(token, 0, LAST_CHARACTER)
     return target(token)
 
 
@@ -216,7 +218,7 @@ def line_of(place):
         return f"{NAMES[code]}\n"
     if KINDS[code] == PATTERN:
         return f"{NAMES[code]} #{operand:08X}\n"
-    if KINDS[code] == TARGET:
+    if KINDS[code] in (TARGET, CHARACTER):
         return f"{NAMES[code]} {operand}\n"
     return f"{NAMES[code]} {signed(operand)}\n"
 

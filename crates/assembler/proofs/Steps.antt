@@ -11,7 +11,7 @@ use Rattle.rules.specs.Instructions.{codes, kindOf}
 use Rattle.rules.specs.Table.{placeOf}
 use Rattle.rules.specs.Assemble.{codeNamed, allowedRun, body, isLabel, nowhere, foundAt, lookup, finished, labelled, instruction, operandFor, Progress, item, bad, targetLabel, operandOfKind, go, stop, withLabel, withItem, awaiting, newLabel, begunAs, newName, newOperand, judgeToken}
 use Rattle.rules.specs.declared.Kind.{Kind}
-use Rattle.rules.specs.declared.Kind.the-variants.{Bare, Immediate, Pattern, Offset, Target}
+use Rattle.rules.specs.declared.Kind.the-variants.{Bare, Immediate, Pattern, Offset, Target, Character}
 use Rattle.rules.specs.declared.TextRefusal.the-variants.{ForbiddenByte, NoInstruction, LabelTwice, TooManyInstructions, TooManyLabels, LabelTooLong}
 use Rattle.assembler.specs.Held.{awaits}
 use Rattle.rules.proofs.Judging.{token-allowed, name-new}
@@ -53,6 +53,7 @@ begun-waits s c Immediate h = refl
 begun-waits s c Pattern h = refl
 begun-waits s c Offset h = refl
 begun-waits s c Target h = refl
+begun-waits s c Character h = refl
 
 begun-alone : (s : Progress) (c : ℕ) (k : Kind) → awaits k ≡ false → begunAs s c k ≡ go (withItem s (finished (placeOf c 0)))
 begun-alone s c Bare h = refl
@@ -60,6 +61,7 @@ begun-alone s c Immediate h = absurd (true≢false h)
 begun-alone s c Pattern h = absurd (true≢false h)
 begun-alone s c Offset h = absurd (true≢false h)
 begun-alone s c Target h = absurd (true≢false h)
+begun-alone s c Character h = absurd (true≢false h)
 
 module _ (s : Progress) (at c : ℕ) where
   pub name-none : codes ≤ c → newName s at c ≡ stop NoInstruction at

@@ -12,7 +12,7 @@ use Rattle.rules.specs.Instructions.{codes}
 use Rattle.rules.specs.Positions.{positionOf}
 use Rattle.rules.specs.Assemble.{Label, Found, nowhere, foundAt, Item, finished, numbered, beyond, labelled, Awaited, instruction, operandFor, Progress, Reading, item, bad, Judged, go, stop, Outcome, done, refused, join, settle, finish}
 use Rattle.rules.specs.declared.Kind.{Kind}
-use Rattle.rules.specs.declared.Kind.the-variants.{Bare, Immediate, Pattern, Offset, Target}
+use Rattle.rules.specs.declared.Kind.the-variants.{Bare, Immediate, Pattern, Offset, Target, Character}
 use Rattle.rules.specs.declared.Assembled.{Assembled}
 use Rattle.rules.specs.declared.Assembled.the-variants.{Made, Fault}
 use Rattle.assembler.specs.declared.held.Got.{Got}
@@ -75,6 +75,7 @@ awaits Immediate = true
 awaits Pattern = true
 awaits Offset = true
 awaits Target = true
+awaits Character = true
 
 -- a label that was sought, and its address
 abbrev pub SoughtIs : Found → Sought → Type 0

@@ -64,6 +64,7 @@ fn awaits_operand(kind: Kind) -> bool
         Kind::Pattern => true,
         Kind::Offset => true,
         Kind::Target => true,
+        Kind::Character => true,
     }
 }
 

@@ -109,5 +109,6 @@ pub(crate) fn read_operand(src: &[u8], code: usize, start: usize, end: usize) ->
             operands::number_of(t, sizes::MAX_OFFSET, sizes::MAX_OFFSET),
         ),
         Kind::Target => read_target(src, code, start, end),
+        Kind::Character => plain_word(code, operands::number_of(t, 0, sizes::MAX_CHARACTER)),
     }
 }

@@ -1,24 +1,28 @@
 -- A step-back in each of its cases, with the top record's fields in locals as the code has them. Assumes nothing.
 use Prim.Native.Nat.{ℕ, _+_, _-_, _≤_, _<_, min}
 use mathlib.Core.Path.{_≡_, refl, sym, ap, ap₂, _∙_}
-use mathlib.Core.Bool.{Bool, true, false, _&&_, cond}
-use mathlib.Core.List.{List, [], _++_}
+use mathlib.Core.Bool.{Bool, true, false, not, _&&_, _||_, cond}
+use mathlib.Core.List.{List, _++_}
 use native.Mathlib.Omega.{arith}
+use lib.Dec.{ltb}
 use lib.ListN.{length, take, drop, replicate, length-take, length-drop, length-replicate}
 use lib.Seq.{drop-drop}
 use borrow.Rule.Slice.PartMut.{putMid}
 use borrow.Author.Tests.{eq-eqb, ne-eqb}
 use Rattle.rules.specs.Lists.{part, splice}
 use Rattle.rules.specs.Places.{cellTag, cellBits, stepPc, stepSp, stepFbr, stepCount}
-use Rattle.rules.specs.Table.{Program, program}
+use Rattle.rules.specs.Table.{Program}
 use Rattle.rules.specs.State.{Memory, sound}
 use Rattle.rules.specs.Step.{unchanged}
-use Rattle.rules.specs.Back.{topPlace, topCells, formedCells, formedStep, formedTop, restored, registersBack, undone, plainBack, back}
+use Rattle.rules.specs.Back.{topPlace, topCells, formedCells, formedStep, formedTop, showsAt, canDrop, writtenBack, outputBack, restored, undoneAt, undone, plainBack, back}
 use Rattle.rules.specs.declared.Registers.{Registers}
 use Rattle.rules.specs.declared.MachineRefusal.the-variants.{NoHistory, Broken}
 use Rattle.rules.specs.declared.Step.the-variants.{Next}
+use Rattle.rules.proofs.Tests.{and-left, and-right}
+use Rattle.state.specs.Held.{Held}
 use Rattle.state.specs.Outcomes.{stepped}
-use Rattle.back.proofs.Cells.{count-below}
+use Rattle.back.specs.Undoable.{placesOf, Undoable}
+use Rattle.back.proofs.Cells.{pc-below, count-below, formed-below}
 
 -- a part that was lent, and came back as vs
 put-splice : (a k : ℕ) (xs ys vs : List ℕ) → ys ≡ vs → k ≡ length vs → putMid a k xs ys ≡ splice xs a vs
@@ -35,57 +39,137 @@ zeroed u x h ys xu uh e =
     put-splice (u - 1 - x) (u - (u - 1 - x)) h ys (replicate (x + 1) 0) (e ∙ ap (λ (k : ℕ). replicate k 0) l)
     (omega (arith, length-replicate {A = ℕ} (x + 1) 0))
 
--- ---- a step-back of a sound state
+-- ---- a record of x cells, of which the step place is top
+
+module _ (r : Registers) (m : Memory) (top x : ℕ) (ex : x ≡ stepCount top) (within : x < r .used) where
+  -- the part of the history that the code lends
+  abbrev pub cells-lent : List ℕ
+  cells-lent = take (r .used - 1 - (r .used - 1 - x)) (drop (r .used - 1 - x) (m .history))
+
+  pub lent-is : cells-lent ≡ placesOf top r m
+  lent-is =
+      let e : r .used - 1 - (r .used - 1 - x) ≡ x = omega (arith, within) in
+      ap (λ (k : ℕ). take k (drop (r .used - 1 - x) (m .history))) e ∙ ap (λ (k : ℕ). part (r .used - 1 - k) k (m .history)) ex
+
+  -- taken back, what the code answers and leaves
+  pub undo-told : (pc sp fbr written : ℕ) (shows : Bool) (bits tags history output : List ℕ) → pc ≡ stepPc top → sp ≡ stepSp top → fbr ≡ stepFbr top
+      → bits ≡ restored cellBits cells-lent (m .cells .bits) → tags ≡ restored cellTag cells-lent (m .cells .tags)
+      → history ≡ splice (m .history) (r .used - 1 - x) (replicate (x + 1) 0)
+      → written ≡ writtenBack shows (r .written) → output ≡ outputBack shows (r .written) (m .output)
+      → stepped
+      (Next
+      (record {
+        n = r .n;
+        h = r .h;
+        pc = pc;
+        sp = sp;
+        fbr = fbr;
+        halt = 0;
+        used = r .used - 1 - x;
+        kept = r .kept - 1;
+        written = written;
+      }))
+      bits
+      tags
+      history
+      output
+      ≡ undoneAt (stepPc top) (stepSp top) (stepFbr top) (stepCount top) shows r m
+  undo-told pc sp fbr written shows bits tags history output ep es ef eb et eh ew eo =
+      λ i.
+      stepped
+      (Next
+      (record {
+        n = r .n;
+        h = r .h;
+        pc = ep i;
+        sp = es i;
+        fbr = ef i;
+        halt = 0;
+        used = r .used - 1 - ex i;
+        kept = r .kept - 1;
+        written = ew i;
+      }))
+      ((eb ∙ ap (λ (l : List ℕ). restored cellBits l (m .cells .bits)) lent-is) i)
+      ((et ∙ ap (λ (l : List ℕ). restored cellTag l (m .cells .tags)) lent-is) i)
+      ((eh ∙ ap (λ (n : ℕ). splice (m .history) (r .used - 1 - n) (replicate (n + 1) 0)) ex) i)
+      (eo i)
 
 module _ (p : Program) (r : Registers) (m : Memory) where
+  -- ---- whether the top record is well formed
+
+  pub top-step : formedStep (r .n) (p .count) (r .used) (topPlace r m) ≡ false → formedTop p r m ≡ false
+  top-step k = ap (λ (z : Bool). z && formedCells (r .n) (p .count) 0 (topCells r m)) k
+
+  module _ (ok : formedStep (r .n) (p .count) (r .used) (topPlace r m) ≡ true) where
+    pub count-within : (x : ℕ) → x ≡ stepCount (topPlace r m) → x < r .used
+    count-within x ex = omega (arith, ex, count-below (r .n) (p .count) (r .used) (topPlace r m) ok)
+
+    pub top-cells : (x : ℕ) (ex : x ≡ stepCount (topPlace r m))
+        → formedTop p r m ≡ formedCells (r .n) (p .count) 0 (cells-lent r m (topPlace r m) x ex (count-within x ex))
+    top-cells x ex =
+        ap (λ (z : Bool). z && formedCells (r .n) (p .count) 0 (topCells r m)) ok
+        ∙ ap (formedCells (r .n) (p .count) 0) (sym (lent-is r m (topPlace r m) x ex (count-within x ex)))
+
+  -- where it is, and a place is used
+  module _ (formed : formedTop p r m ≡ true) where
+    step-formed : formedStep (r .n) (p .count) (r .used) (topPlace r m) ≡ true
+    step-formed = and-left (formedStep (r .n) (p .count) (r .used) (topPlace r m)) (formedCells (r .n) (p .count) 0 (topCells r m)) formed
+
+    cells-formed : formedCells (r .n) (p .count) 0 (topCells r m) ≡ true
+    cells-formed = and-right (formedStep (r .n) (p .count) (r .used) (topPlace r m)) (formedCells (r .n) (p .count) 0 (topCells r m)) formed
+
+    pub old-pc : stepPc (topPlace r m) < p .count
+    old-pc = pc-below (r .n) (p .count) (r .used) (topPlace r m) step-formed
+
+    pub undoable : (shows : Bool) → Held p r m → (not shows || ltb 0 (r .written)) ≡ true → Undoable (topPlace r m) shows r m
+    undoable shows held can =
+        let count : stepCount (topPlace r m) < r .used = count-below (r .n) (p .count) (r .used) (topPlace r m) step-formed in
+        let some : r .kept ≡ 0 → ⊥ = λ q. let none : r .used ≡ 0 = held .none q in let z : ⊥ = omega (arith, count, none) in z in
+        record {
+          tagged = held .cells ∙ sym (held .tagged);
+          kept = omega (arith, some);
+          count = count;
+          used = omega (arith, held .places, held .used);
+          addresses = λ k h. omega (arith, held .cells, formed-below (r .n) (p .count) 0 (topCells r m) cells-formed k h);
+          drops = can;
+          written = held .written;
+        }
+
+  -- ---- a step-back of a sound state
+
   pub back-none : r .used ≡ 0 → plainBack p r m ≡ unchanged m NoHistory
   unfolding plainBack
-  back-none h = ap (λ (t : Bool). cond t (unchanged m NoHistory) (cond (formedTop p r m) (undone r m) (unchanged m Broken))) (eq-eqb (r .used) 0 h)
+  back-none h =
+      ap (λ (z : Bool). cond z (unchanged m NoHistory) (cond (formedTop p r m && canDrop p r m) (undone p r m) (unchanged m Broken))) (eq-eqb (r .used) 0 h)
 
   module _ (some : r .used ≡ 0 → ⊥) where
-    back-formed : (t : Bool) → formedTop p r m ≡ t → plainBack p r m ≡ cond t (undone r m) (unchanged m Broken)
+    back-judged : plainBack p r m ≡ cond (formedTop p r m && canDrop p r m) (undone p r m) (unchanged m Broken)
     unfolding plainBack
-    back-formed t k =
-        ap (λ (z : Bool). cond z (unchanged m NoHistory) (cond (formedTop p r m) (undone r m) (unchanged m Broken))) (ne-eqb (r .used) 0 some)
-        ∙ ap (λ (z : Bool). cond z (undone r m) (unchanged m Broken)) k
+    back-judged =
+        ap (λ (z : Bool). cond z (unchanged m NoHistory) (cond (formedTop p r m && canDrop p r m) (undone p r m) (unchanged m Broken)))
+        (ne-eqb (r .used) 0 some)
 
-    pub back-step : formedStep (r .n) (p .count) (r .used) (topPlace r m) ≡ false → plainBack p r m ≡ unchanged m Broken
-    back-step k = back-formed false (ap (λ (z : Bool). z && formedCells (r .n) (p .count) 0 (topCells r m)) k)
+    pub back-unformed : formedTop p r m ≡ false → plainBack p r m ≡ unchanged m Broken
+    back-unformed h = back-judged ∙ ap (λ (z : Bool). cond (z && canDrop p r m) (undone p r m) (unchanged m Broken)) h
 
-    -- with a well-formed step place, whose count of cells is x
-    module _ (x : ℕ) (ex : x ≡ stepCount (topPlace r m)) (ok : formedStep (r .n) (p .count) (r .used) (topPlace r m) ≡ true) where
-      pub within-used : x < r .used
-      within-used = omega (arith, ex, count-below (r .n) (p .count) (r .used) (topPlace r m) ok)
+    -- with the instruction at the old PC
+    module _ (formed : formedTop p r m ≡ true) (pc : ℕ) (shows : Bool) (ep : pc ≡ stepPc (topPlace r m)) (es : shows ≡ showsAt p pc) where
+      at : shows ≡ showsAt p (stepPc (topPlace r m))
+      at = es ∙ ap (showsAt p) ep
 
-      -- the part of the history that the code lends
-      abbrev lent : List ℕ
-      lent = take (r .used - 1 - (r .used - 1 - x)) (drop (r .used - 1 - x) (m .history))
+      back-formed : (t : Bool) → (not shows || ltb 0 (r .written)) ≡ t → plainBack p r m ≡ cond t (undone p r m) (unchanged m Broken)
+      back-formed t h =
+          back-judged ∙ ap (λ (z : Bool). cond (z && canDrop p r m) (undone p r m) (unchanged m Broken)) formed
+          ∙ ap (λ (z : Bool). cond z (undone p r m) (unchanged m Broken)) (sym (ap (λ (z : Bool). not z || ltb 0 (r .written)) at) ∙ h)
 
-      lent-cells : lent ≡ topCells r m
-      lent-cells =
-          let e : r .used - 1 - (r .used - 1 - x) ≡ x = omega (arith, within-used) in
-          ap (λ (k : ℕ). take k (drop (r .used - 1 - x) (m .history))) e ∙ ap (λ (k : ℕ). part (r .used - 1 - k) k (m .history)) ex
+      pub back-unwritten : (not shows || ltb 0 (r .written)) ≡ false → plainBack p r m ≡ unchanged m Broken
+      back-unwritten = back-formed false
 
-      formed-lent : (t : Bool) → formedCells (r .n) (p .count) 0 lent ≡ t → formedTop p r m ≡ t
-      formed-lent t k =
-          ap (λ (z : Bool). z && formedCells (r .n) (p .count) 0 (topCells r m)) ok ∙ ap (formedCells (r .n) (p .count) 0) (sym lent-cells) ∙ k
-
-      pub back-cells : formedCells (r .n) (p .count) 0 lent ≡ false → plainBack p r m ≡ unchanged m Broken
-      back-cells k = back-formed false (formed-lent false k)
-
-      pub back-undone : (pc sp fbr : ℕ) (bits tags history : List ℕ) → formedCells (r .n) (p .count) 0 lent ≡ true
-          → pc ≡ stepPc (topPlace r m) → sp ≡ stepSp (topPlace r m) → fbr ≡ stepFbr (topPlace r m)
-          → bits ≡ restored cellBits lent (m .cells .bits) → tags ≡ restored cellTag lent (m .cells .tags)
-          → history ≡ splice (m .history) (r .used - 1 - x) (replicate (x + 1) 0)
-          → stepped (Next (registersBack pc sp fbr x r)) bits tags history
-          ≡ plainBack p r m
-      back-undone pc sp fbr bits tags history k ep es ef eb et eh =
-          (λ i.
-          stepped (Next (registersBack (ep i) (es i) (ef i) (ex i) r))
-          ((eb ∙ ap (λ (l : List ℕ). restored cellBits l (m .cells .bits)) lent-cells) i)
-          ((et ∙ ap (λ (l : List ℕ). restored cellTag l (m .cells .tags)) lent-cells) i)
-          ((eh ∙ ap (λ (n : ℕ). splice (m .history) (r .used - 1 - n) (replicate (n + 1) 0)) ex) i))
-          ∙ sym (back-formed true (formed-lent true k))
+      pub back-undone : (not shows || ltb 0 (r .written)) ≡ true
+          → plainBack p r m ≡ undoneAt (stepPc (topPlace r m)) (stepSp (topPlace r m)) (stepFbr (topPlace r m)) (stepCount (topPlace r m)) shows r m
+      back-undone h =
+          back-formed true h
+          ∙ sym (ap (λ (z : Bool). undoneAt (stepPc (topPlace r m)) (stepSp (topPlace r m)) (stepFbr (topPlace r m)) (stepCount (topPlace r m)) z r m) at)
 
   -- ---- "Step-back: 10, then 9."
 
@@ -93,7 +177,6 @@ module _ (p : Program) (r : Registers) (m : Memory) where
   unfolding back
   back-broken h = rw h refl
 
-  -- of the table only its length is read
-  pub back-sound : sound p r m ≡ true → back p r m ≡ plainBack (program [] (p .count)) r m
-  unfolding back plainBack
+  pub back-sound : sound p r m ≡ true → back p r m ≡ plainBack p r m
+  unfolding back
   back-sound h = rw h refl

@@ -1,4 +1,4 @@
--- The loops over the cell places of a record, one place more and no place left; and what a well-formed record tells of its counts and addresses.
+-- The loops over the cell places of a record, one place more and no place left; and what a well-formed record tells of its PC, counts and addresses.
 -- Assumes nothing.
 use Prim.Native.Nat.{ℕ, zero, suc, _+_, _≤_, _<_}
 use mathlib.Core.Path.{_≡_, ap, _∙_}
@@ -7,7 +7,7 @@ use mathlib.Core.List.{List, [], _∷_}
 use native.Mathlib.Nat.{le-of-suc-le-suc, not-suc-le-zero}
 use lib.ListN.{length, getD, drop, set, drop-of-length-le}
 use borrow.Author.Tests.{ltb-true}
-use Rattle.rules.specs.Places.{cellAddress, stepCount}
+use Rattle.rules.specs.Places.{cellAddress, stepPc, stepCount}
 use Rattle.rules.specs.Back.{cellTests, formedCell, formedCells, stepTests, formedStep, restored}
 use Rattle.rules.proofs.Tests.{and-left, and-right, every-at, drop-next}
 
@@ -32,7 +32,10 @@ formed-below n count low (q ∷ qs) h (suc k) kl =
     formed-below n count (cellAddress q + 1) qs (and-right (formedCell n count low q) (formedCells n count (cellAddress q + 1) qs) h) k
     (le-of-suc-le-suc kl)
 
--- a well-formed step place tells of fewer cells than there are places used
+-- a well-formed step place tells of a PC below the program's length, and of fewer cells than there are places used
+pub pc-below : (n count u q : ℕ) → formedStep n count u q ≡ true → stepPc q < count
+pc-below n count u q h = ltb-true _ _ (every-at (stepTests n count u q) 2 h)
+
 pub count-below : (n count u q : ℕ) → formedStep n count u q ≡ true → stepCount q < u
 count-below n count u q h = ltb-true _ _ (every-at (stepTests n count u q) 5 h)
 

@@ -1,5 +1,5 @@
--- The run of the console: what it leaves, and that SP stays below 1,000. Assumes nothing.
-use Prim.Native.Nat.{ℕ, zero, suc, _+_, _<_}
+-- The run of the console: what it leaves, that SP stays below 1,000, and that at most 256 bytes are written. Assumes nothing.
+use Prim.Native.Nat.{ℕ, zero, suc, _+_, _≤_, _<_}
 use mathlib.Core.Path.{_≡_, refl, subst}
 use mathlib.Core.Bool.{true, false}
 use mathlib.Core.List.{List, [], _∷_}
@@ -7,12 +7,12 @@ use native.Mathlib.Omega.{arith}
 use lib.Dec.{eqb, leb}
 use lib.ListN.{length}
 use Rattle.rules.specs.Lists.{every}
-use Rattle.rules.specs.Sizes.{maxLimit, maxCells}
+use Rattle.rules.specs.Sizes.{maxLimit, maxCells, maxOutput}
 use Rattle.rules.specs.Table.{Program, soundTable}
 use Rattle.rules.specs.State.{Memory, memory, sound}
 use Rattle.rules.specs.Step.{step}
 use Rattle.rules.specs.Run.{Ran, runFrom, run}
-use Rattle.rules.specs.Reset.{sizeTests, reset}
+use Rattle.rules.specs.Reset.{cleared, sizeTests, reset}
 use Rattle.rules.specs.Console.{consoleLimit, consoleMemory, consoleRun}
 use Rattle.rules.specs.declared.Registers.{Registers}
 use Rattle.rules.specs.declared.Reset.{Reset}
@@ -46,31 +46,42 @@ stands p (suc left) made r m s =
     (λ e. rw (run-halted p made r m (suc left) e) s)
     (λ e. stands-next p left made r m s e (λ r′ m′ s′. stands p left (made + 1) r′ m′ s′) (step p r m .answer) refl)
 
--- ---- SP stays below 1,000
+-- ---- SP stays below 1,000, and at most 256 bytes are written
 
-run-sp : (p : Program) (limit : ℕ) (r : Registers) (m : Memory) → r .sp < maxCells → run p limit r m .answer .registers .sp < maxCells
-run-sp p limit r m h =
+pub record Within (r : Registers) : Type 0 where
+  pub sp : r .sp < maxCells
+  pub written : r .written ≤ maxOutput
+
+run-within : (p : Program) (limit : ℕ) (r : Registers) (m : Memory) → Within r → Within (run p limit r m .answer .registers)
+run-within p limit r m w =
     by-test (leb limit maxLimit)
     (λ e.
     by-test (sound p r m)
     (λ s.
     let a = runFrom p limit 0 r m in
     let f = sound-facts p (a .answer .registers) (a .memory) (stands p limit 0 r m s) in
-    rw (run-enter p limit r m e s) (omega (arith, f .sp, f .few)))
-    (λ s. rw (run-broken p limit r m e s) h))
-    (λ e. rw (run-long p limit r m e) h)
+    rw (run-enter p limit r m e s) (record { sp = omega (arith, f .sp, f .few); written = omega (arith, f .written, f .shown) }))
+    (λ s. rw (run-broken p limit r m e s) w))
+    (λ e. rw (run-long p limit r m e) w)
 
-reset-sp : (p : Program) (m : Memory) → reset p m .answer .registers .sp ≡ 0
+cleared-within : (n h : ℕ) → Within (cleared n h)
+cleared-within n h = record { sp = omega arith; written = omega arith }
+
+reset-within : (p : Program) (m : Memory) → Within (reset p m .answer .registers)
 unfolding reset
-reset-sp p m =
+reset-within p m =
     by-test (every (sizeTests m))
-    (λ e. by-test (soundTable p) (λ s. rw (e, s)) (λ s. rw (e, s)))
-    (λ e. rw e)
+    (λ e. by-test (soundTable p) (λ s. rw (e, s) (cleared-within _ _)) (λ s. rw (e, s) (cleared-within 0 0)))
+    (λ e. rw e (cleared-within 0 0))
 
-pub console-sp : (p : Program) → consoleRun p .answer .registers .sp < maxCells
+pub console-within : (p : Program) → Within (consoleRun p .answer .registers)
 unfolding consoleRun
-console-sp p =
-    run-sp p consoleLimit (reset p consoleMemory .answer .registers) (reset p consoleMemory .memory) (omega (arith, reset-sp p consoleMemory))
+console-within p =
+    let start = reset p consoleMemory in
+    run-within p consoleLimit (start .answer .registers) (start .memory) (reset-within p consoleMemory)
+
+pub ran-within : (p : Program) (a : Run) (m : Memory) → consoleRun p ≡ record { answer = a; memory = m } → Within (a .registers)
+ran-within p a m e = subst (λ (x : Ran). Within (x .answer .registers)) e (console-within p)
 
 -- ---- what the reset and the run of the console leave
 
@@ -82,16 +93,13 @@ module _
     (p : Program)
     (s : Reset)
     (a : Run)
-    (b₁ t₁ h₁ b₂ t₂ h₂ : List ℕ)
-    (begins : started s b₁ t₁ h₁ ≡ reset p consoleMemory)
-    (tells : a ≡ run p consoleLimit (s .registers) (memory b₁ t₁ h₁) .answer)
-    (leaves : memory b₂ t₂ h₂ ≡ run p consoleLimit (s .registers) (memory b₁ t₁ h₁) .memory)
+    (b₁ t₁ h₁ o₁ b₂ t₂ h₂ o₂ : List ℕ)
+    (begins : started s b₁ t₁ h₁ o₁ ≡ reset p consoleMemory)
+    (tells : a ≡ run p consoleLimit (s .registers) (memory b₁ t₁ h₁ o₁) .answer)
+    (leaves : memory b₂ t₂ h₂ o₂ ≡ run p consoleLimit (s .registers) (memory b₁ t₁ h₁ o₁) .memory)
     (bare : length h₂ ≡ 0) where
-  pub console-ran : consoleRun p ≡ record { answer = a; memory = memory b₂ t₂ [] }
+  pub console-ran : consoleRun p ≡ record { answer = a; memory = memory b₂ t₂ [] o₂ }
   unfolding consoleRun
   console-ran =
-      let e : memory b₂ t₂ [] ≡ run p consoleLimit (s .registers) (memory b₁ t₁ h₁) .memory = rw (none-left h₂ bare) at leaves in
+      let e : memory b₂ t₂ [] o₂ ≡ run p consoleLimit (s .registers) (memory b₁ t₁ h₁ o₁) .memory = rw (none-left h₂ bare) at leaves in
       rw (← begins, tells, e)
-
-  pub ran-sp : a .registers .sp < maxCells
-  ran-sp = subst (λ (x : Ran). x .answer .registers .sp < maxCells) console-ran (console-sp p)

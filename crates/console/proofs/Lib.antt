@@ -1,4 +1,5 @@
 pub mod Writing
+pub mod OutLine
 pub mod Reported
 pub mod ConsoleRun
 pub mod Printed

@@ -16,13 +16,15 @@ use Rattle.rules.specs.declared.TextRefusal.{TextRefusal}
 use Rattle.digits.specs.Put.{Put}
 use Rattle.digits.proofs.Laws.{put-zeros}
 use Rattle.console.proofs.Reported.{report-short, refused-short}
-use Rattle.console.proofs.ConsoleRun.{console-sp}
+use Rattle.console.proofs.ConsoleRun.{console-within}
 
 -- ---- what is printed fits
 
 printed-for-short : (table : List ℕ) (a : Assembled) → length (printedFor table a) ≤ 32768
 unfolding printedFor
-printed-for-short table (Made n) = report-short (consoleRun (program table n)) (console-sp (program table n))
+printed-for-short table (Made n) =
+    let p = program table n in
+    report-short (consoleRun p) (console-within p .sp) (console-within p .written)
 printed-for-short table (Fault e p) = omega (arith, refused-short (textNumber e) p)
 
 pub printed-short : (source : List ℕ) → length (printed source) ≤ 32768

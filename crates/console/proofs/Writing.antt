@@ -64,13 +64,18 @@ pub tag-pa : (t : ℕ) → t ≡ 3 → tagName t ≡ text "PA"
 unfolding tagName
 tag-pa t e = rw e
 
-pub tag-none : (t : ℕ) → 4 ≤ t → tagName t ≡ []
+pub tag-ch : (t : ℕ) → t ≡ 4 → tagName t ≡ text "CH"
+unfolding tagName
+tag-ch t e = rw e
+
+pub tag-none : (t : ℕ) → 5 ≤ t → tagName t ≡ []
 unfolding tagName text
 tag-none zero h = absurd (omega arith)
 tag-none (suc zero) h = absurd (omega arith)
 tag-none (suc (suc zero)) h = absurd (omega arith)
 tag-none (suc (suc (suc zero))) h = absurd (omega arith)
-tag-none (suc (suc (suc (suc t)))) h = refl
+tag-none (suc (suc (suc (suc zero)))) h = absurd (omega arith)
+tag-none (suc (suc (suc (suc (suc t))))) h = refl
 
 -- ---- the value of a cell
 
@@ -98,7 +103,8 @@ tag-short zero b = omega arith
 tag-short (suc zero) b = omega arith
 tag-short (suc (suc zero)) b = omega arith
 tag-short (suc (suc (suc zero))) b = omega arith
-tag-short (suc (suc (suc (suc t)))) b = omega arith
+tag-short (suc (suc (suc (suc zero)))) b = omega arith
+tag-short (suc (suc (suc (suc (suc t))))) b = omega arith
 
 value-short : (v t b : ℕ) → length (valueText v t ++ b ∷ []) ≤ 12
 unfolding valueText

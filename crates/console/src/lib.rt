@@ -1,5 +1,6 @@
 // What the console program prints for a source, in lent bytes.
 mod lines;
+mod panel;
 mod report;
 mod values;
 mod words;

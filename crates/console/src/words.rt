@@ -52,6 +52,9 @@ pub(crate) fn put_tag(out: &mut [u8], at: usize, tag: u8) -> usize
     if tag == tags::PA {
         return put_word(out, at, b"PA", b' ');
     }
+    if tag == tags::CH {
+        return put_word(out, at, b"CH", b' ');
+    }
     digits::put_byte(out, at, 0, b' ');
     1
 }

@@ -19,6 +19,9 @@ const MORE_DIGITS: usize = 9;
 
 const HEX_DIGITS: usize = 8;
 
+// A byte has two hex digits.
+const PAIR_DIGITS: usize = 2;
+
 // Writes a byte at the place `at` + `i`, where the slice has that place.
 pub fn put_byte(out: &mut [u8], at: usize, i: usize, b: u8)
     ensures { λ r. ⌜ now (out .exit) ≡ set (now (out .entry)) (at + i) b ⌝ }
@@ -98,6 +101,14 @@ pub fn put_hex(out: &mut [u8], at: usize, n: u32) -> usize
 {
     put_hex_digits(out, at, n, HEX_DIGITS);
     HEX_DIGITS
+}
+
+// Writes a byte as two hex digits.
+pub fn put_hex_pair(out: &mut [u8], at: usize, b: u8) -> usize
+    ensures { λ r. ⌜ Put (now (out .entry)) (now (out .exit)) at (hex 2 b) r ⌝ }
+{
+    put_hex_digits(out, at, b as u32, PAIR_DIGITS);
+    PAIR_DIGITS
 }
 
 // Writes a text.

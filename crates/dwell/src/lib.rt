@@ -35,10 +35,11 @@ pub fn dwell(
     bits: &[u32],
     tags: &[u8],
     history: &[u64],
+    output: &[u8],
 ) -> Dwell
-    ensures { λ a. ⌜ a ≡ dwell (program (now (table .entry)) length) r (memory (now (bits .entry)) (now (tags .entry)) (now (history .entry))) ⌝ }
+    ensures { λ a. ⌜ a ≡ dwell (program (now (table .entry)) length) r (memory (now (bits .entry)) (now (tags .entry)) (now (history .entry)) (now (output .entry))) ⌝ }
 {
-    let sound = state::is_sound(table, length, r, bits, tags, history);
+    let sound = state::is_sound(table, length, r, bits, tags, history, output);
     if !sound {
         return Dwell::Unread(DwellRefusal::StateBroken);
     }

@@ -24,6 +24,7 @@ pub(crate) fn width_of(kind: Kind) -> usize
         Kind::Pattern => 32,
         Kind::Offset => 11,
         Kind::Target => 11,
+        Kind::Character => 7,
     }
 }
 
@@ -43,5 +44,6 @@ pub(crate) fn table_bits(kind: Kind, v: u32) -> u32
             v + BEFORE_SIGN
         }
         Kind::Target => v,
+        Kind::Character => v,
     }
 }

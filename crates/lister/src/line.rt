@@ -45,8 +45,8 @@ fn put_pattern(out: &mut [u8], at: usize, v: u32) -> usize
     n + 2
 }
 
-// Writes a space and a target.
-fn put_target(out: &mut [u8], at: usize, v: u32) -> usize
+// Writes a space and a number without a sign.
+fn put_unsigned(out: &mut [u8], at: usize, v: u32) -> usize
     requires { ⌜ at ≤ 32768 ⌝ }
     ensures { λ r. ⌜ Put (now (out .entry)) (now (out .exit)) at (space ∷ decimal 9 v) r ⌝ }
 {
@@ -65,7 +65,8 @@ fn put_operand(out: &mut [u8], at: usize, kind: Kind, v: u32) -> usize
         Kind::Immediate => put_number(out, at, v),
         Kind::Pattern => put_pattern(out, at, v),
         Kind::Offset => put_number(out, at, v),
-        Kind::Target => put_target(out, at, v),
+        Kind::Target => put_unsigned(out, at, v),
+        Kind::Character => put_unsigned(out, at, v),
     }
 }
 

@@ -1,6 +1,6 @@
 // Sources assembled, listed and assembled again, one line for each: the number of the refusal and its place; or 0, the number of instructions,
 // the length of the listing, and 1 where the listing was assembled to the same number of instructions and the same table. The sources are of
-// document 01's sentences, whole and damaged, and at the edges of its sizes: standard input has all but the longest, last 256 and 257 labels,
+// the documents' sentences, whole and damaged, and at the edges of its sizes: standard input has all but the longest, last 256 and 257 labels,
 // 1,024 and 1,025 instructions, and the program of the longest listing. After them the number alone of listings that are refused, or not.
 use libc::STDIN_FILENO;
 use libc::STDOUT_FILENO;
@@ -139,14 +139,18 @@ fn list_short(place: u64, n: usize) {
     list_place(place, n, &mut text);
 }
 
-// The lister's refusals: an output one byte short, before a broken table; a code above 51; a target behind the end; an operand of STOP; a place
-// that is used and is not in the program.
+// The lister's refusals: an output one byte short, before a broken table; a code above 53; a target behind the end; a character above 127; an operand of
+// WRITECH, and of STOP; a place that is used and is not in the program.
 fn refusals() {
     list_short(0, 1);
-    list_short(0x34_0000_0000, 1);
-    list_one(0x34_0000_0000, 1);
+    list_short(0x36_0000_0000, 1);
+    list_one(0x36_0000_0000, 1);
     list_one(0x2c_0000_0001, 1);
     list_one(0x2c_0000_0002, 1);
+    list_one(0x34_0000_007f, 1);
+    list_one(0x34_0000_0080, 1);
+    list_one(0x35_0000_0000, 1);
+    list_one(0x35_0000_0001, 1);
     list_one(1, 1);
     list_one(0x1_0000_0001, 0);
     list_one(0, MAX_PROGRAM + 1);

@@ -2,9 +2,9 @@ pub mod Blocks
 pub mod Signed
 pub mod Reach
 pub mod Values
-pub mod Stages
 pub mod Commits
 pub mod Steps
 pub mod Carries
+pub mod Shows
 pub mod Running
 pub mod Once

@@ -35,13 +35,13 @@ module _ (p : Program) (r : Registers) (m : Memory) (s : sound p r m ≡ true) (
       ap onceBy (run-next p 0 r m 0 (not-halted r running) q h) ∙ one-left q (step p r m .memory)
       ∙ ap (λ (z : Step). record { answer = z; memory = step p r m .memory }) (sym h)
   once-by (Refused x) h =
-      let same = refused-keeps p r m s (step p r m .memory .cells .bits) (step p r m .memory .cells .tags) (step p r m .memory .history) (step p r m .answer) x h refl in
+      let same = refused-keeps p r m s (step p r m .memory .cells .bits) (step p r m .memory .cells .tags) (step p r m .memory .history) (step p r m .memory .output) (step p r m .answer) x h refl in
       ap onceBy (run-refused p 0 r m 0 (not-halted r running) x h) ∙ λ i. record { answer = sym h i; memory = sym same i }
 
   once : onceBy (runFrom p 1 0 r m) ≡ step p r m
   once = once-by (step p r m .answer) refl
 
   -- the step's answer, read off the run's
-  pub once-answer : (a : Run) (x : Step) (b t h : List ℕ) → ran a b t h ≡ runFrom p 1 0 r m → x ≡ onlyStep (a .ending) (a .registers)
-      → stepped x b t h ≡ step p r m
-  once-answer a x b t h q k = ap (λ (z : Step). stepped z b t h) k ∙ ap onceBy q ∙ once
+  pub once-answer : (a : Run) (x : Step) (b t h o : List ℕ) → ran a b t h o ≡ runFrom p 1 0 r m → x ≡ onlyStep (a .ending) (a .registers)
+      → stepped x b t h o ≡ step p r m
+  once-answer a x b t h o q k = ap (λ (z : Step). stepped z b t h o) k ∙ ap onceBy q ∙ once

@@ -43,6 +43,7 @@ pub record Reached (p : Program) (limit : ℕ) (r₀ : Registers) (m₀ : Memory
   pub bits : length (m .cells .bits) ≡ length (m₀ .cells .bits)
   pub tags : length (m .cells .tags) ≡ length (m₀ .cells .tags)
   pub history : length (m .history) ≡ length (m₀ .history)
+  pub output : length (m .output) ≡ length (m₀ .output)
 
 module _ (p : Program) (limit : ℕ) (r₀ : Registers) (m₀ : Memory) where
   pub start-halted : sound p r₀ m₀ ≡ true → (r₀ .halt ≡ 0 → ⊥) → ended 0 Halted r₀ m₀ ≡ runFrom p limit 0 r₀ m₀
@@ -59,6 +60,7 @@ module _ (p : Program) (limit : ℕ) (r₀ : Registers) (m₀ : Memory) where
         bits = refl;
         tags = refl;
         history = refl;
+        output = refl;
       }
 
   module _ (left : ℕ) (r : Registers) (m : Memory) (o : Reached p limit r₀ m₀ left r m) where
@@ -73,22 +75,22 @@ module _ (p : Program) (limit : ℕ) (r₀ : Registers) (m₀ : Memory) where
         sym (run-limit p limit r m going) ∙ ap₂ (λ (k n : ℕ). runFrom p k n r m) (sym none) made ∙ o .whole
 
     -- a step is made or refused
-    module _ (low : 0 < left) (bits tags history : List ℕ) where
+    module _ (low : 0 < left) (bits tags history output : List ℕ) where
       begun : runFrom p (suc (left - 1)) (limit - left) r m ≡ runFrom p limit 0 r₀ m₀
       begun = let one : suc (left - 1) ≡ left = omega arith in ap (λ (n : ℕ). runFrom p n (limit - left) r m) one ∙ o .whole
 
-      pub reached-refused : (a : Step) (x : MachineRefusal) → a ≡ Refused x → stepped a bits tags history ≡ step p r m
-          → ended (limit - left) (Stopped x) r (memory bits tags history) ≡ runFrom p limit 0 r₀ m₀
+      pub reached-refused : (a : Step) (x : MachineRefusal) → a ≡ Refused x → stepped a bits tags history output ≡ step p r m
+          → ended (limit - left) (Stopped x) r (memory bits tags history output) ≡ runFrom p limit 0 r₀ m₀
       reached-refused a x k e =
-          ap (ended (limit - left) (Stopped x) r) (refused-keeps p r m (o .good) bits tags history a x k e)
+          ap (ended (limit - left) (Stopped x) r) (refused-keeps p r m (o .good) bits tags history output a x k e)
           ∙ sym (run-refused p (limit - left) r m (left - 1) going x (sym (ap (λ s. s .answer) e) ∙ k))
           ∙ begun
 
-      module _ (a : Step) (q : Registers) (k : a ≡ Next q) (e : stepped a bits tags history ≡ step p r m) where
-        after-sound : sound p q (memory bits tags history) ≡ true
-        after-sound = next-sound p r m (o .good) bits tags history a q k e
+      module _ (a : Step) (q : Registers) (k : a ≡ Next q) (e : stepped a bits tags history output ≡ step p r m) where
+        after-sound : sound p q (memory bits tags history output) ≡ true
+        after-sound = next-sound p r m (o .good) bits tags history output a q k e
 
-        after-whole : runFrom p (left - 1) (limit - (left - 1)) q (memory bits tags history) ≡ runFrom p limit 0 r₀ m₀
+        after-whole : runFrom p (left - 1) (limit - (left - 1)) q (memory bits tags history output) ≡ runFrom p limit 0 r₀ m₀
         after-whole =
             let w = o .within in
             let more : limit - (left - 1) ≡ limit - left + 1 = omega (arith, w) in
@@ -96,9 +98,9 @@ module _ (p : Program) (limit : ℕ) (r₀ : Registers) (m₀ : Memory) where
             ∙ sym (run-next p (limit - left) r m (left - 1) going q (sym (ap (λ s. s .answer) e) ∙ k))
             ∙ begun
 
-        pub next-halted : (q .halt ≡ 0 → ⊥) → ended (limit - (left - 1)) Halted q (memory bits tags history) ≡ runFrom p limit 0 r₀ m₀
+        pub next-halted : (q .halt ≡ 0 → ⊥) → ended (limit - (left - 1)) Halted q (memory bits tags history output) ≡ runFrom p limit 0 r₀ m₀
         next-halted h =
-            sym (run-halted p (limit - (left - 1)) q (memory bits tags history) (left - 1) (halted-is p q (memory bits tags history) after-sound h))
+            sym (run-halted p (limit - (left - 1)) q (memory bits tags history output) (left - 1) (halted-is p q (memory bits tags history output) after-sound h))
             ∙ after-whole
 
         module _ (kb : length bits ≡ length (m .cells .bits)) (kt : length tags ≡ length (m .cells .tags)) (kh : length history ≡ length (m .history)) where
@@ -106,11 +108,11 @@ module _ (p : Program) (limit : ℕ) (r₀ : Registers) (m₀ : Memory) where
           pub next-sizes : sound p r₀ m₀ ≡ true → (q .n ≡ r₀ .n) × (q .h ≡ r₀ .h)
           next-sizes s =
               let f₀ : Sound p r₀ m₀ = sound-facts p r₀ m₀ s in
-              let f : Sound p q (memory bits tags history) = sound-facts p q (memory bits tags history) after-sound in
+              let f : Sound p q (memory bits tags history output) = sound-facts p q (memory bits tags history output) after-sound in
               (sym (f .bits) ∙ kb ∙ o .bits ∙ f₀ .bits, sym (f .history) ∙ kh ∙ o .history ∙ f₀ .history)
 
-          pub reached-next : q .halt ≡ 0 → Reached p limit r₀ m₀ (left - 1) q (memory bits tags history)
-          reached-next h =
+          pub reached-next : length output ≡ length (m .output) → q .halt ≡ 0 → Reached p limit r₀ m₀ (left - 1) q (memory bits tags history output)
+          reached-next ko h =
               let w = o .within in
               record {
                 within = omega (arith, w);
@@ -120,4 +122,5 @@ module _ (p : Program) (limit : ℕ) (r₀ : Registers) (m₀ : Memory) where
                 bits = kb ∙ o .bits;
                 tags = kt ∙ o .tags;
                 history = kh ∙ o .history;
+                output = ko ∙ o .output;
               }

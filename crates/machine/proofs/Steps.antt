@@ -6,14 +6,15 @@ use mathlib.Core.List.{List}
 use native.Mathlib.Omega.{arith}
 use lib.Arith.{lt-of-le-ne}
 use lib.ListN.{length, getD}
-use lib.Dec.{ltb}
 use borrow.Author.Tests.{eq-eqb, ne-eqb, ltb-true}
-use Rattle.rules.specs.Instructions.{codes, kindOf}
-use Rattle.rules.specs.Table.{Program, codeOf, operandOf, within, soundPlace}
+use Rattle.rules.specs.Instructions.{codes}
+use Rattle.rules.specs.Table.{Program, codeOf, soundPlace}
 use Rattle.rules.specs.State.{Memory, memory, sound}
 use Rattle.rules.specs.Commit.{registersOf}
-use Rattle.rules.specs.Step.{decideAt, fitted, judged, unchanged, carried, step, plainStep}
+use Rattle.rules.specs.Step.{decideAt, inStack, inOutput, inHistory, fitted, judged, unchanged, carried, step, plainStep}
 use Rattle.rules.specs.declared.Registers.{Registers}
+use Rattle.rules.specs.declared.Shown.{Shown}
+use Rattle.rules.specs.declared.Shown.the-variants.{Nothing, Byte}
 use Rattle.rules.specs.declared.Effect.{Effect}
 use Rattle.rules.specs.declared.Decision.{Decision}
 use Rattle.rules.specs.declared.Decision.the-variants.{Does, Refuses}
@@ -21,32 +22,34 @@ use Rattle.rules.specs.declared.MachineRefusal.{MachineRefusal}
 use Rattle.rules.specs.declared.MachineRefusal.the-variants.{AlreadyHalted, AtEnd, Broken}
 use Rattle.rules.specs.declared.Step.{Step}
 use Rattle.rules.specs.declared.Step.the-variants.{Next, Refused}
-use Rattle.rules.proofs.Fair.{Sound}
-use Rattle.rules.proofs.FairEffects.{sound-facts, fair-place}
-use Rattle.rules.proofs.Table.{table-short, table-long, place-sound}
-use Rattle.rules.proofs.Tests.{and-left}
+use Rattle.rules.proofs.Fair.{FairByte, Sound, Fair}
+use Rattle.rules.proofs.FairEffects.{sound-facts, fitting-does, fair-place}
+use Rattle.rules.proofs.Table.{table-short, table-long, place-sound, place-coded}
 use Rattle.rules.proofs.Sound.{step-plain, sound-step}
 use Rattle.state.specs.Outcomes.{stepped}
 use Rattle.machine.specs.Small.{Small}
 use Rattle.machine.specs.Live.{Live}
 use Rattle.machine.specs.Fields.{Fields}
-use Rattle.machine.specs.Fits.{Fits}
-use Rattle.machine.specs.Stages.{stacked, roomed}
-use Rattle.machine.proofs.Stages.{staged, stacked-does}
+use Rattle.machine.specs.Fits.{InByte, Fits}
+
+-- a character is a byte
+in-byte : (x : Shown) → FairByte x → InByte x
+in-byte Nothing h = tt
+in-byte (Byte b) h = omega arith
 
 module _ (p : Program) (r : Registers) (m : Memory) where
   -- ---- "1 to 8 in order"
 
-  pub judged-halted : (r .halt ≡ 0 → ⊥) → judged p r (m .cells) ≡ Refuses AlreadyHalted
+  pub judged-halted : (r .halt ≡ 0 → ⊥) → judged p r (m .cells) (length (m .output)) ≡ Refuses AlreadyHalted
   unfolding judged
   judged-halted h = rw (ne-eqb (r .halt) 0 h) refl
 
   module _ (running : r .halt ≡ 0) where
-    pub judged-end : r .pc ≡ p .count → judged p r (m .cells) ≡ Refuses AtEnd
+    pub judged-end : r .pc ≡ p .count → judged p r (m .cells) (length (m .output)) ≡ Refuses AtEnd
     unfolding judged
     judged-end h = rw (eq-eqb (r .halt) 0 running, eq-eqb (r .pc) (p .count) h) refl
 
-    pub judged-fitted : (r .pc ≡ p .count → ⊥) → judged p r (m .cells) ≡ fitted r (decideAt r (m .cells) (getD (p .places) (r .pc) 0))
+    pub judged-fitted : (r .pc ≡ p .count → ⊥) → judged p r (m .cells) (length (m .output)) ≡ fitted r (length (m .output)) (decideAt r (m .cells) (getD (p .places) (r .pc) 0))
     unfolding judged
     judged-fitted h = rw (eq-eqb (r .halt) 0 running, ne-eqb (r .pc) (p .count) h) refl
 
@@ -73,11 +76,11 @@ module _ (p : Program) (r : Registers) (m : Memory) where
         let f : Sound p r m = sound-facts p r m s in
         (omega (arith, f .bits, f .sp), f .tags ∙ sym (f .bits))
 
-    carries : step p r m ≡ carried r m (judged p r (m .cells))
+    carries : step p r m ≡ carried r m (judged p r (m .cells) (length (m .output)))
     unfolding plainStep
     carries = step-plain p r m s
 
-    pub step-refuses : (a : Step) (x : MachineRefusal) → a ≡ Refused x → judged p r (m .cells) ≡ Refuses x → record { answer = a; memory = m } ≡ step p r m
+    pub step-refuses : (a : Step) (x : MachineRefusal) → a ≡ Refused x → judged p r (m .cells) (length (m .output)) ≡ Refuses x → record { answer = a; memory = m } ≡ step p r m
     step-refuses a x h q = ap (λ (z : Step). record { answer = z; memory = m }) h ∙ sym (carries ∙ ap (carried r m) q)
 
     -- at an instruction
@@ -97,13 +100,13 @@ module _ (p : Program) (r : Registers) (m : Memory) where
       place-fits = place-sound p (sound-facts p r m s .table) (r .pc) below
 
       pub coded : codeOf (getD (p .places) (r .pc) 0) < codes
-      unfolding soundPlace
-      coded = ltb-true (codeOf place) codes (and-left (ltb (codeOf place) codes) (within (kindOf (codeOf place)) (p .count) (operandOf place)) place-fits)
+      coded = place-coded p (sound-facts p r m s .table) (r .pc) below
 
-      pub fits : (e : Effect) → stacked r (decideAt r (m .cells) (getD (p .places) (r .pc) 0)) ≡ Does e → Fits r e m
+      pub fits : (e : Effect) → inStack r (decideAt r (m .cells) (getD (p .places) (r .pc) 0)) ≡ Does e → Fits r e (m .cells) (m .history)
       fits e q =
           let f : Sound p r m = sound-facts p r m s in
-          let does = stacked-does r (decideAt r (m .cells) place) e q in
+          let does = fitting-does _ _ (decideAt r (m .cells) place) e q in
+          let fair : Fair p r e = fair-place p r m f below place e place-fits (does .1) (ltb-true (e .sp) (r .n) (does .0)) in
           record {
             cells = f .bits;
             tagged = f .tags;
@@ -111,26 +114,29 @@ module _ (p : Program) (r : Registers) (m : Memory) where
             places = f .history;
             used = f .used;
             kept = f .kept;
-            block = fair-place p r m f below place e place-fits (does .0) (does .1) .fits;
+            block = fair .fits;
+            written = omega (arith, f .written, f .shown);
+            byte = in-byte (e .shows) (fair .shows);
           }
 
-      pub step-carries : step p r m ≡ carried r m (roomed r (stacked r (decideAt r (m .cells) (getD (p .places) (r .pc) 0))))
-      step-carries = carries ∙ ap (carried r m) (judged-fitted running inside ∙ staged r (decideAt r (m .cells) place))
+      pub step-carries : step p r m
+          ≡ carried r m (inHistory r (inOutput r (length (m .output)) (inStack r (decideAt r (m .cells) (getD (p .places) (r .pc) 0)))))
+      step-carries = carries ∙ ap (carried r m) (judged-fitted running inside)
 
     -- what an accepted step leaves is sound, and a refused step leaves what was
-    module _ (bits tags history : List ℕ) where
-      pub next-sound : (a : Step) (q : Registers) → a ≡ Next q → stepped a bits tags history ≡ step p r m → sound p q (memory bits tags history) ≡ true
+    module _ (bits tags history output : List ℕ) where
+      pub next-sound : (a : Step) (q : Registers) → a ≡ Next q → stepped a bits tags history output ≡ step p r m → sound p q (memory bits tags history output) ≡ true
       next-sound a q k e =
           let plain = e ∙ step-plain p r m s in
           subst (λ (n : Memory). sound p q n ≡ true) (sym (ap (λ x. x .memory) plain))
           (sound-step p r q m s (sym (ap (λ x. x .answer) plain) ∙ k))
 
-      refused-same : (d : Decision) (x : MachineRefusal) → stepped (Refused x) bits tags history ≡ carried r m d → memory bits tags history ≡ m
+      refused-same : (d : Decision) (x : MachineRefusal) → stepped (Refused x) bits tags history output ≡ carried r m d → memory bits tags history output ≡ m
       refused-same (Does e) x h =
           let a : Refused x ≡ Next (registersOf r e) = ap (λ k. k .answer) h in
           let z : _≡_ {A = ℕ} 0 1 = cc in
           absurd (let y : ⊥ = omega arith in y)
       refused-same (Refuses y) x h = ap (λ k. k .memory) h
 
-      pub refused-keeps : (a : Step) (x : MachineRefusal) → a ≡ Refused x → stepped a bits tags history ≡ step p r m → memory bits tags history ≡ m
-      refused-keeps a x k e = refused-same (judged p r (m .cells)) x (ap (λ (z : Step). stepped z bits tags history) (sym k) ∙ e ∙ carries)
+      pub refused-keeps : (a : Step) (x : MachineRefusal) → a ≡ Refused x → stepped a bits tags history output ≡ step p r m → memory bits tags history output ≡ m
+      refused-keeps a x k e = refused-same (judged p r (m .cells) (length (m .output))) x (ap (λ (z : Step). stepped z bits tags history output) (sym k) ∙ e ∙ carries)

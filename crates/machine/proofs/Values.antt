@@ -52,7 +52,7 @@ upFrom k zero = []
 upFrom k (suc n) = k ∷ upFrom (suc k) n
 
 abbrev others : List ℕ
-others = upFrom 0 5 ++ upFrom 6 46
+others = upFrom 0 5 ++ upFrom 6 48
 
 pub left-code : (x : ℕ) → x < codes → Without (Unit {0}) others x → x ≡ 5
 left-code x few = the-first 5 others x (at-below (among (5 ∷ others)) codes refl x few)

@@ -10,8 +10,8 @@ use Rattle.rules.specs.declared.Ending.the-variants.{Halted, LimitReached, Stop
 use Rattle.rules.specs.declared.Step.{Step}
 use Rattle.rules.specs.declared.Step.the-variants.{Next, Refused}
 
-abbrev pub ran : Run → List ℕ → List ℕ → List ℕ → Ran
-ran a bits tags history = record { answer = a; memory = memory bits tags history }
+abbrev pub ran : Run → List ℕ → List ℕ → List ℕ → List ℕ → Ran
+ran a bits tags history output = record { answer = a; memory = memory bits tags history output }
 
 -- the step was made, whether it halted or not, or it was refused
 abbrev pub onlyStep : Ending → Registers → Step

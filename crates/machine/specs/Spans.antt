@@ -1,4 +1,5 @@
--- How many numbers a field of a history place has room for. Document 01: "address 10, old tag 2"; "old PC 11, old SP 10, old FBR 10, cells written 10".
+-- How many numbers a field of a history place has room for, and a byte. Document 01: "address 10"; "old PC 11, old SP 10, old FBR 10, cells written 10". Request
+-- h: "The old tag .. becomes 3 bits".
 -- Assumes nothing.
 use Prim.Native.Nat.{ℕ}
 
@@ -10,4 +11,7 @@ abbrev pub pcSpan : ℕ
 pcSpan = 2048
 
 abbrev pub tagSpan : ℕ
-tagSpan = 4
+tagSpan = 8
+
+abbrev pub byteSpan : ℕ
+byteSpan = 256

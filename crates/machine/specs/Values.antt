@@ -5,9 +5,9 @@ use mathlib.Core.Bool.{Bool, false, _||_}
 use mathlib.Core.List.{List, [], _∷_}
 use lib.Dec.{eqb}
 
--- DUP, NOT, BITNOT, ISNIL, ISPOS, ISNEG, POPSP, POPFBR, PUSHIND, JUMPC, JUMPIND, JSRIND, ITOF, FTOI
+-- DUP, NOT, BITNOT, ISNIL, ISPOS, ISNEG, POPSP, POPFBR, PUSHIND, JUMPC, JUMPIND, JSRIND, ITOF, FTOI, WRITECH
 abbrev pub singles : List ℕ
-singles = 3 ∷ 19 ∷ 25 ∷ 31 ∷ 32 ∷ 33 ∷ 35 ∷ 37 ∷ 40 ∷ 45 ∷ 46 ∷ 48 ∷ 50 ∷ 51 ∷ []
+singles = 3 ∷ 19 ∷ 25 ∷ 31 ∷ 32 ∷ 33 ∷ 35 ∷ 37 ∷ 40 ∷ 45 ∷ 46 ∷ 48 ∷ 50 ∷ 51 ∷ 53 ∷ []
 
 -- from ADD to EQUAL, but for NOT and BITNOT
 abbrev pub pairs : List ℕ

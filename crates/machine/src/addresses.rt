@@ -11,7 +11,7 @@ ghost use Rattle.rules.specs.Actions.{inside, addSp, pushInd, storeInd, pushOff
 ghost use Rattle.machine.specs.Families.{onPair, onOperand};
 ghost use Rattle.machine.specs.Small.{Small};
 ghost use Rattle.machine.specs.Live.{Live};
-ghost use Rattle.machine.specs.Stages.{stacked};
+ghost use Rattle.rules.specs.Step.{inStack};
 ghost use Rattle.machine.specs.Plan.{planned, Means};
 ghost use Rattle.machine.specs.Reach.{reachOf};
 use crate::cells;
@@ -97,7 +97,7 @@ pub(crate) fn on_push_ind(r: Registers, bits: &[u32], tags: &[u8], top: Cell) ->
 // The top is stored at the MA below it.
 pub(crate) fn on_store_ind(r: Registers, bits: &[u32], tags: &[u8]) -> Plan
     requires { ⌜ Small r × Live r (now bits) (now tags) ⌝ }
-    ensures { λ d. ⌜ ((c : Cells) → planned r c d ≡ stacked r (onPair storeInd r (cellAt (cells (now (bits .entry)) (now (tags .entry))) (record { 0 = r .sp - 2 })) (cellAt c (record { 0 = r .sp - 1 })))) ⌝ }
+    ensures { λ d. ⌜ ((c : Cells) → planned r c d ≡ inStack r (onPair storeInd r (cellAt (cells (now (bits .entry)) (now (tags .entry))) (record { 0 = r .sp - 2 })) (cellAt c (record { 0 = r .sp - 1 })))) ⌝ }
 {
     if r.sp < 2 {
         return TOO_FEW_VALUES;
@@ -132,7 +132,7 @@ pub(crate) fn on_push_off(r: Registers, bits: &[u32], tags: &[u8], offset: u32) 
 // The top is stored at FBR and an offset.
 pub(crate) fn on_store_off(r: Registers, offset: u32) -> Plan
     requires { ⌜ Small r ⌝ }
-    ensures { λ d. ⌜ ((c : Cells) → planned r c d ≡ stacked r (onOperand storeOff r offset (cellAt c (record { 0 = r .sp - 1 })))) ⌝ }
+    ensures { λ d. ⌜ ((c : Cells) → planned r c d ≡ inStack r (onOperand storeOff r offset (cellAt c (record { 0 = r .sp - 1 })))) ⌝ }
 {
     if r.sp < 1 {
         return TOO_FEW_VALUES;

@@ -1,18 +1,19 @@
 // Carrying out a plan: the effect of its shape, or its refusal. An arm for each shape, so that each is compiled with what it writes known.
 ghost use mathlib.Core.Path.{_≡_};
+ghost use lib.ListN.{length};
 ghost use Rattle.rules.specs.Cells.{cells};
 ghost use Rattle.rules.specs.State.{memory};
-ghost use Rattle.rules.specs.Step.{carried};
+ghost use Rattle.rules.specs.Step.{inOutput, inHistory, carried};
 ghost use Rattle.rules.specs.declared.Decision.the-variants.{Does};
 ghost use Rattle.rules.specs.declared.Effect.{Effect};
 ghost use Rattle.state.specs.Outcomes.{stepped};
 ghost use Rattle.machine.specs.Small.{Small};
 ghost use Rattle.machine.specs.Live.{Live};
 ghost use Rattle.machine.specs.Fits.{Fits};
-ghost use Rattle.machine.specs.Stages.{roomed};
 ghost use Rattle.machine.specs.Plan.{planned};
 use crate::commit;
 use crate::effects;
+use crate::panel;
 use crate::plans::Plan;
 use crate::plans::Shape;
 use rules::MachineRefusal;
@@ -25,10 +26,11 @@ pub(crate) fn carry(
     bits: &mut [u32],
     tags: &mut [u8],
     history: &mut [u64],
+    output: &mut [u8],
 ) -> Step
     requires { ⌜ Small r × Live r (now bits) (now tags) ⌝ }
-    requires { ⌜ ((e : Effect) → planned r (cells (now bits) (now tags)) d ≡ Does e → Fits r e (memory (now bits) (now tags) (now history))) ⌝ }
-    ensures { λ a. ⌜ stepped a (now (bits .exit)) (now (tags .exit)) (now (history .exit)) ≡ carried r (memory (now (bits .entry)) (now (tags .entry)) (now (history .entry))) (roomed r (planned r (cells (now (bits .entry)) (now (tags .entry))) d)) ⌝ }
+    requires { ⌜ ((e : Effect) → planned r (cells (now bits) (now tags)) d ≡ Does e → Fits r e (cells (now bits) (now tags)) (now history)) ⌝ }
+    ensures { λ a. ⌜ stepped a (now (bits .exit)) (now (tags .exit)) (now (history .exit)) (now (output .exit)) ≡ carried r (memory (now (bits .entry)) (now (tags .entry)) (now (history .entry)) (now (output .entry))) (inHistory r (inOutput r (length (now (output .entry))) (planned r (cells (now (bits .entry)) (now (tags .entry))) d))) ⌝ }
 {
     let shape = d.shape;
     match shape {
@@ -42,6 +44,7 @@ pub(crate) fn carry(
         Shape::Halt => commit::commit(r, effects::halts(r), bits, tags, history),
         Shape::Swap => commit::commit(r, effects::swaps(r, bits, tags), bits, tags, history),
         Shape::Fill => commit::commit(r, effects::fills(r, d), bits, tags, history),
+        Shape::Show => panel::show(r, d, bits, tags, history, output),
         Shape::TooFewValues => Step::Refused(MachineRefusal::TooFewValues),
         Shape::WrongTag => Step::Refused(MachineRefusal::WrongTag),
         Shape::NoResult => Step::Refused(MachineRefusal::NoResult),

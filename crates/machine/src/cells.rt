@@ -2,7 +2,7 @@
 ghost use mathlib.Core.Path.{_≡_};
 ghost use Prim.Native.Nat.{_-_, _<_};
 ghost use lib.ListN.{length};
-ghost use Rattle.rules.specs.Tags.{int, float, ma, pa};
+ghost use Rattle.rules.specs.Tags.{int, float, ma, pa, ch};
 ghost use Rattle.rules.specs.Cells.{cells, cellAt};
 ghost use Rattle.machine.specs.Live.{Live};
 use rules::Cell;
@@ -49,6 +49,15 @@ pub(crate) fn program_cell(bits: u32) -> Cell
     Cell {
         bits,
         tag: tags::PA,
+    }
+}
+
+pub(crate) fn character_cell(bits: u32) -> Cell
+    ensures { λ c. ⌜ c ≡ ch bits ⌝ }
+{
+    Cell {
+        bits,
+        tag: tags::CH,
     }
 }
 

@@ -1,20 +1,24 @@
-// Commit: what an accepted step writes to the history and to the cells. One for all instructions: the effect says which cells.
+// Commit: what an accepted step writes to the history and to the cells, and the registers after. One for all instructions: the effect says which cells. The
+// output is not lent here: the way of the one instruction that shows a byte writes it.
 use crate::records;
 use rules::Effect;
 use rules::MachineRefusal;
 use rules::Registers;
+use rules::Shown;
 use rules::Step;
 ghost use mathlib.Core.Path.{_≡_};
-ghost use Prim.Native.Nat.{_+_, _≤_};
+ghost use mathlib.Core.List.{List, []};
+ghost use Prim.Native.Nat.{ℕ, _+_, _≤_};
 ghost use lib.ListN.{length, replicate};
 ghost use Rattle.rules.specs.Lists.{splice};
 ghost use Rattle.rules.specs.Cells.{cells};
 ghost use Rattle.rules.specs.State.{memory};
-ghost use Rattle.rules.specs.Commit.{block, recordOf, registersWith};
+ghost use Rattle.rules.specs.Commit.{block, recordOf, writtenAfter, registersWith};
+ghost use Rattle.rules.specs.Sizes.{maxOutput};
 ghost use Rattle.state.specs.Outcomes.{stepped};
 ghost use Rattle.machine.specs.Fields.{Fields};
 ghost use Rattle.machine.specs.Fits.{Fits};
-ghost use Rattle.machine.specs.Stages.{committed};
+ghost use Rattle.machine.specs.Stages.{outputBy, committed};
 
 // Sets `count` cells, from `from` on, to INT 0.
 fn zero_cells(bits: &mut [u32], tags: &mut [u8], from: usize, count: usize)
@@ -73,10 +77,23 @@ fn add_record(r: Registers, e: Effect, bits: &[u32], tags: &[u8], history: &mut 
     history[last] = records::step_place(r.pc, r.sp, r.fbr, count);
 }
 
+// How many bytes of the output are written after what is shown.
+fn written_after(shows: Shown, written: usize) -> usize
+    requires { ⌜ written ≤ maxOutput ⌝ }
+    ensures { λ a. ⌜ a ≡ writtenAfter shows written ⌝ }
+{
+    match shows {
+        Shown::Nothing => written,
+        Shown::Byte(_) => written + 1,
+    }
+}
+
 // The registers after the effect, with these places used and so many steps kept.
 fn registers_with(r: Registers, e: Effect, used: usize, kept: usize) -> Registers
+    requires { ⌜ r .written ≤ maxOutput ⌝ }
     ensures { λ a. ⌜ a ≡ registersWith r e used kept ⌝ }
 {
+    let shows = e.shows;
     Registers {
         n: r.n,
         h: r.h,
@@ -86,14 +103,15 @@ fn registers_with(r: Registers, e: Effect, used: usize, kept: usize) -> Register
         halt: e.halt,
         used,
         kept,
+        written: written_after(shows, r.written),
     }
 }
 
 // "8: H above 0 and fewer than (cells written + 1) places free", and then the record, where there is a history.
 fn keep(r: Registers, e: Effect, bits: &[u32], tags: &[u8], history: &mut [u64]) -> Step
-    requires { ⌜ Fits r e (memory (now bits) (now tags) (now history)) ⌝ }
-    ensures { λ a. ⌜ a ≡ committed r (memory (now (bits .entry)) (now (tags .entry)) (now (history .entry))) e .answer ⌝ }
-    ensures { λ _. ⌜ now (history .exit) ≡ committed r (memory (now (bits .entry)) (now (tags .entry)) (now (history .entry))) e .memory .history ⌝ }
+    requires { ⌜ Fits r e (cells (now bits) (now tags)) (now history) ⌝ }
+    ensures { λ a. ⌜ a ≡ committed r (memory (now (bits .entry)) (now (tags .entry)) (now (history .entry)) []) e .answer ⌝ }
+    ensures { λ _. ⌜ now (history .exit) ≡ committed r (memory (now (bits .entry)) (now (tags .entry)) (now (history .entry)) []) e .memory .history ⌝ }
 {
     let used = r.used;
     if r.h == 0 {
@@ -107,7 +125,8 @@ fn keep(r: Registers, e: Effect, bits: &[u32], tags: &[u8], history: &mut [u64])
     Step::Next(registers_with(r, e, used + needed, r.kept + 1))
 }
 
-// Carries out an effect, where there is room for its record: keeps what it overwrites, then writes its cells.
+// Carries out an effect, where there is room for its record: keeps what it overwrites, then writes its cells. Whatever the output is, what the effect shows is
+// left to be written.
 pub(crate) fn commit(
     r: Registers,
     e: Effect,
@@ -115,8 +134,8 @@ pub(crate) fn commit(
     tags: &mut [u8],
     history: &mut [u64],
 ) -> Step
-    requires { ⌜ Fits r e (memory (now bits) (now tags) (now history)) ⌝ }
-    ensures { λ a. ⌜ stepped a (now (bits .exit)) (now (tags .exit)) (now (history .exit)) ≡ committed r (memory (now (bits .entry)) (now (tags .entry)) (now (history .entry))) e ⌝ }
+    requires { ⌜ Fits r e (cells (now bits) (now tags)) (now history) ⌝ }
+    ensures { λ a. ⌜ ((o : List ℕ) → stepped a (now (bits .exit)) (now (tags .exit)) (now (history .exit)) (outputBy (e .shows) a (r .written) o) ≡ committed r (memory (now (bits .entry)) (now (tags .entry)) (now (history .entry)) o) e) ⌝ }
 {
     let next = keep(r, e, bits, tags, history);
     match next {

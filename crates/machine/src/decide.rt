@@ -6,11 +6,10 @@ ghost use Rattle.rules.specs.Cells.{Cells, cells};
 ghost use Rattle.rules.specs.Instructions.{codes, actionOf};
 ghost use Rattle.rules.specs.Table.{codeOf};
 ghost use Rattle.rules.specs.Decide.{onValues, decide};
-ghost use Rattle.rules.specs.Step.{decideAt};
+ghost use Rattle.rules.specs.Step.{decideAt, inStack};
 ghost use Rattle.machine.specs.Small.{Small};
 ghost use Rattle.machine.specs.Live.{Live};
 ghost use Rattle.machine.specs.Values.{singles, pairs, among};
-ghost use Rattle.machine.specs.Stages.{stacked};
 ghost use Rattle.machine.specs.Plan.{planned};
 use crate::addresses;
 use crate::cells;
@@ -25,7 +24,7 @@ use rules::codes;
 // An instruction that computes on the two top values. No other code comes here.
 fn on_pair(code: usize, r: Registers, vb: Cell, vt: Cell) -> Plan
     requires { ⌜ Small r × (2 ≤ r .sp) × (among pairs code ≡ true) ⌝ }
-    ensures { λ d. ⌜ ((c : Cells) (n : ℕ) → planned r c d ≡ stacked r (onValues r c n vb vt (actionOf code))) ⌝ }
+    ensures { λ d. ⌜ ((c : Cells) (n : ℕ) → planned r c d ≡ inStack r (onValues r c n vb vt (actionOf code))) ⌝ }
 {
     let b = vb.bits;
     let t = vt.bits;
@@ -73,7 +72,7 @@ fn on_pair(code: usize, r: Registers, vb: Cell, vt: Cell) -> Plan
 // The same on the cells, where there are two values.
 fn on_two(code: usize, r: Registers, bits: &[u32], tags: &[u8]) -> Plan
     requires { ⌜ Small r × Live r (now bits) (now tags) × (among pairs code ≡ true) ⌝ }
-    ensures { λ d. ⌜ ((n : ℕ) → planned r (cells (now (bits .entry)) (now (tags .entry))) d ≡ stacked r (decide r (cells (now (bits .entry)) (now (tags .entry))) n (actionOf code))) ⌝ }
+    ensures { λ d. ⌜ ((n : ℕ) → planned r (cells (now (bits .entry)) (now (tags .entry))) d ≡ inStack r (decide r (cells (now (bits .entry)) (now (tags .entry))) n (actionOf code))) ⌝ }
 {
     if r.sp < 2 {
         return TOO_FEW_VALUES;
@@ -89,7 +88,7 @@ fn on_two(code: usize, r: Registers, bits: &[u32], tags: &[u8]) -> Plan
 // An instruction that reads the top value, where there is one. No other code comes here.
 fn on_one(code: usize, n: u32, r: Registers, bits: &[u32], tags: &[u8]) -> Plan
     requires { ⌜ Small r × Live r (now bits) (now tags) × (among singles code ≡ true) ⌝ }
-    ensures { λ d. ⌜ planned r (cells (now (bits .entry)) (now (tags .entry))) d ≡ stacked r (decide r (cells (now (bits .entry)) (now (tags .entry))) n (actionOf code)) ⌝ }
+    ensures { λ d. ⌜ planned r (cells (now (bits .entry)) (now (tags .entry))) d ≡ inStack r (decide r (cells (now (bits .entry)) (now (tags .entry))) n (actionOf code)) ⌝ }
 {
     if r.sp < 1 {
         return TOO_FEW_VALUES;
@@ -110,6 +109,7 @@ fn on_one(code: usize, n: u32, r: Registers, bits: &[u32], tags: &[u8]) -> Plan
         codes::JSRIND => families::on_jsr_ind(r, top),
         codes::ITOF => families::on_to_float(r, top),
         codes::FTOI => families::on_to_int(r, top),
+        codes::WRITECH => families::on_write_ch(r, top),
         // what is left is DUP
         _ => plans::pushed(r, top),
     }
@@ -118,7 +118,7 @@ fn on_one(code: usize, n: u32, r: Registers, bits: &[u32], tags: &[u8]) -> Plan
 // A code with its operand: an arm for each, which hands its own number on to `on_one` or `on_two`, whose `match` is then no second dispatch.
 fn by_code(code: usize, n: u32, r: Registers, bits: &[u32], tags: &[u8]) -> Plan
     requires { ⌜ Small r × Live r (now bits) (now tags) × (code < codes) ⌝ }
-    ensures { λ d. ⌜ planned r (cells (now (bits .entry)) (now (tags .entry))) d ≡ stacked r (decide r (cells (now (bits .entry)) (now (tags .entry))) n (actionOf code)) ⌝ }
+    ensures { λ d. ⌜ planned r (cells (now (bits .entry)) (now (tags .entry))) d ≡ inStack r (decide r (cells (now (bits .entry)) (now (tags .entry))) n (actionOf code)) ⌝ }
 {
     match code {
         codes::STOP => plans::halted(r),
@@ -172,6 +172,8 @@ fn by_code(code: usize, n: u32, r: Registers, bits: &[u32], tags: &[u8]) -> Plan
         codes::PUSHIMMPA => plans::pushed(r, cells::program_cell(n)),
         codes::ITOF => on_one(codes::ITOF, n, r, bits, tags),
         codes::FTOI => on_one(codes::FTOI, n, r, bits, tags),
+        codes::PUSHIMMCH => plans::pushed(r, cells::character_cell(n)),
+        codes::WRITECH => on_one(codes::WRITECH, n, r, bits, tags),
         // what is left is ADD
         _ => on_two(codes::ADD, r, bits, tags),
     }
@@ -180,7 +182,7 @@ fn by_code(code: usize, n: u32, r: Registers, bits: &[u32], tags: &[u8]) -> Plan
 // The instruction at a table's place.
 pub(crate) fn decide_at(place: u64, r: Registers, bits: &[u32], tags: &[u8]) -> Plan
     requires { ⌜ Small r × Live r (now bits) (now tags) × (codeOf place < codes) ⌝ }
-    ensures { λ d. ⌜ planned r (cells (now (bits .entry)) (now (tags .entry))) d ≡ stacked r (decideAt r (cells (now (bits .entry)) (now (tags .entry))) place) ⌝ }
+    ensures { λ d. ⌜ planned r (cells (now (bits .entry)) (now (tags .entry))) d ≡ inStack r (decideAt r (cells (now (bits .entry)) (now (tags .entry))) place) ⌝ }
 {
     let code = program::table::code_of(place);
     let n = program::table::operand_of(place);

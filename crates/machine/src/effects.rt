@@ -3,16 +3,17 @@ ghost use mathlib.Core.Path.{_≡_};
 ghost use Prim.Native.Nat.{_-_, _+_, _<_};
 ghost use Rattle.rules.specs.Cells.{cells};
 ghost use Rattle.rules.specs.Effects.{nothing, cell, effect};
-ghost use Rattle.machine.specs.Spans.{cellSpan};
+ghost use Rattle.machine.specs.Spans.{cellSpan, byteSpan};
 ghost use Rattle.machine.specs.Small.{Small};
 ghost use Rattle.machine.specs.Live.{Live};
-ghost use Rattle.machine.specs.Plan.{zerosAt, jumps, moves, frames, halts, results, stores, calls, links, swaps, fills};
+ghost use Rattle.machine.specs.Plan.{zerosAt, jumps, moves, frames, halts, results, stores, calls, links, swaps, fills, shows};
 use crate::cells;
 use crate::cells::INT_ZERO;
 use crate::plans::Plan;
 use rules::Cell;
 use rules::Effect;
 use rules::Registers;
+use rules::Shown;
 
 // No cell is written.
 fn writing_none(pc: usize, sp: usize, fbr: usize, halt: usize) -> Effect
@@ -27,6 +28,7 @@ fn writing_none(pc: usize, sp: usize, fbr: usize, halt: usize) -> Effect
         count: 0,
         first: INT_ZERO,
         second: INT_ZERO,
+        shows: Shown::Nothing,
     }
 }
 
@@ -65,6 +67,7 @@ fn writing_one(pc: usize, sp: usize, fbr: usize, at: usize, c: Cell) -> Effect
         count: 1,
         first: c,
         second: INT_ZERO,
+        shows: Shown::Nothing,
     }
 }
 
@@ -121,6 +124,7 @@ pub(crate) fn swaps(r: Registers, bits: &[u32], tags: &[u8]) -> Effect
         count: 2,
         first: cells::top(r, bits, tags),
         second: cells::second(r, bits, tags),
+        shows: Shown::Nothing,
     }
 }
 
@@ -138,6 +142,7 @@ fn writing_zeros(r: Registers, d: Plan, count: usize) -> Effect
         count,
         first: INT_ZERO,
         second: INT_ZERO,
+        shows: Shown::Nothing,
     }
 }
 
@@ -165,4 +170,22 @@ pub(crate) fn fills(r: Registers, d: Plan) -> Effect
     ensures { λ e. ⌜ e ≡ fills r d ⌝ }
 {
     writing_zeros(r, d, above(d.sp, d.at))
+}
+
+// The planned character is shown, and no cell is written.
+pub(crate) fn shows(r: Registers, d: Plan) -> Effect
+    requires { ⌜ Small r × (d .bits < byteSpan) ⌝ }
+    ensures { λ e. ⌜ e ≡ shows r d ⌝ }
+{
+    Effect {
+        pc: r.pc + 1,
+        sp: d.sp,
+        fbr: r.fbr,
+        halt: 0,
+        at: 0,
+        count: 0,
+        first: INT_ZERO,
+        second: INT_ZERO,
+        shows: Shown::Byte(d.bits as u8),
+    }
 }

@@ -5,10 +5,10 @@ ghost use Prim.Native.Nat.{_-_, _≤_};
 ghost use lib.IntN.{ℤ};
 ghost use Rattle.rules.specs.Words.{word, inWord};
 ghost use Rattle.rules.specs.Cells.{Cells, cellAt};
-ghost use Rattle.rules.specs.Actions.{swap, sums, ints, divides, floats, compareFloats, one, toFloat, toInt, sameValue, agree, equal, isNil, popSp, popFbr, jumpC, jumpInd, jsrInd};
+ghost use Rattle.rules.specs.Actions.{swap, sums, ints, divides, floats, compareFloats, one, toFloat, toInt, sameValue, agree, equal, isNil, popSp, popFbr, jumpC, jumpInd, jsrInd, writeCh};
 ghost use Rattle.machine.specs.Families.{onPair, onTop, onOperand};
 ghost use Rattle.machine.specs.Small.{Small};
-ghost use Rattle.machine.specs.Stages.{stacked};
+ghost use Rattle.rules.specs.Step.{inStack};
 ghost use Rattle.machine.specs.Plan.{planned, Means};
 use crate::addresses;
 use crate::cells::float_cell;
@@ -26,7 +26,7 @@ use rules::tags;
 
 pub(crate) fn on_swap(r: Registers) -> Plan
     requires { ⌜ Small r ⌝ }
-    ensures { λ d. ⌜ ((c : Cells) → planned r c d ≡ stacked r (onPair swap r (cellAt c (record { 0 = r .sp - 2 })) (cellAt c (record { 0 = r .sp - 1 })))) ⌝ }
+    ensures { λ d. ⌜ ((c : Cells) → planned r c d ≡ inStack r (onPair swap r (cellAt c (record { 0 = r .sp - 2 })) (cellAt c (record { 0 = r .sp - 1 })))) ⌝ }
 {
     if r.sp < 2 {
         return TOO_FEW_VALUES;
@@ -257,3 +257,14 @@ pub(crate) fn on_jsr_ind(r: Registers, top: Cell) -> Plan
 // A cell is pushed.
 // PC is set to the target.
 // PC is set to the target, and the address after the call is pushed.
+
+// A CH is popped, and shown.
+pub(crate) fn on_write_ch(r: Registers, top: Cell) -> Plan
+    requires { ⌜ Small r × (1 ≤ r .sp) ⌝ }
+    ensures { λ d. ⌜ Means r d (onTop writeCh r top) ⌝ }
+{
+    if top.tag != tags::CH {
+        return WRONG_TAG;
+    }
+    plans::shown(r, top.bits)
+}

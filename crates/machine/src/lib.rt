@@ -6,6 +6,7 @@ mod commit;
 mod decide;
 mod effects;
 mod families;
+mod panel;
 mod plans;
 mod records;
 pub mod run;

@@ -3,10 +3,10 @@
 ghost use mathlib.Core.Path.{_≡_};
 ghost use Prim.Native.Nat.{_-_, _≤_};
 ghost use Rattle.rules.specs.Cells.{Cells, cellAt};
-ghost use Rattle.rules.specs.Effects.{result, swapped, stored, moved, framed, linked, jumped, called, halted, programAddress};
+ghost use Rattle.rules.specs.Effects.{result, swapped, stored, moved, framed, linked, jumped, called, shown, halted, programAddress};
 ghost use Rattle.rules.specs.declared.Decision.the-variants.{Does};
 ghost use Rattle.machine.specs.Small.{Small};
-ghost use Rattle.machine.specs.Stages.{stacked};
+ghost use Rattle.rules.specs.Step.{inStack};
 ghost use Rattle.machine.specs.Plan.{planned, Means};
 use rules::Cell;
 use rules::MemoryAddress;
@@ -25,6 +25,7 @@ pub enum Shape {
     Link,
     Swap,
     Fill,
+    Show,
     TooFewValues,
     WrongTag,
     NoResult,
@@ -32,7 +33,7 @@ pub enum Shape {
     StackFull,
 }
 
-// A shape with the new SP, an address of cells, and a cell to write, or a program address as the bits. What a shape does not need is never read.
+// A shape with the new SP, an address of cells, and a cell to write, or a program address or a character as the bits. What a shape does not need is never read.
 pub struct Plan {
     pub shape: Shape,
     pub sp: usize,
@@ -116,7 +117,7 @@ pub(crate) fn result(r: Registers, popped: usize, c: Cell) -> Plan
 // The two top values change places.
 pub(crate) fn swapped(r: Registers) -> Plan
     requires { ⌜ Small r ⌝ }
-    ensures { λ d. ⌜ ((c : Cells) → planned r c d ≡ stacked r (Does (swapped r (cellAt c (record { 0 = r .sp - 2 })) (cellAt c (record { 0 = r .sp - 1 }))))) ⌝ }
+    ensures { λ d. ⌜ ((c : Cells) → planned r c d ≡ inStack r (Does (swapped r (cellAt c (record { 0 = r .sp - 2 })) (cellAt c (record { 0 = r .sp - 1 }))))) ⌝ }
 {
     Plan {
         shape: Shape::Swap,
@@ -130,7 +131,7 @@ pub(crate) fn swapped(r: Registers) -> Plan
 // `popped` values are popped and the top is stored.
 pub(crate) fn stored(r: Registers, popped: usize, a: MemoryAddress) -> Plan
     requires { ⌜ Small r × (popped ≤ r .sp) ⌝ }
-    ensures { λ d. ⌜ ((c : Cells) → planned r c d ≡ stacked r (Does (stored r popped a (cellAt c (record { 0 = r .sp - 1 }))))) ⌝ }
+    ensures { λ d. ⌜ ((c : Cells) → planned r c d ≡ inStack r (Does (stored r popped a (cellAt c (record { 0 = r .sp - 1 }))))) ⌝ }
 {
     Plan {
         shape: Shape::Store,
@@ -226,6 +227,20 @@ pub(crate) fn called(r: Registers, popped: usize, target: u32) -> Plan
         sp: 0,
         at,
         bits: target,
+        tag: tags::INT,
+    }
+}
+
+// The top is popped, and its bits are shown.
+pub(crate) fn shown(r: Registers, character: u32) -> Plan
+    requires { ⌜ Small r × (1 ≤ r .sp) ⌝ }
+    ensures { λ d. ⌜ Means r d (Does (shown r character)) ⌝ }
+{
+    Plan {
+        shape: Shape::Show,
+        sp: r.sp - 1,
+        at: 0,
+        bits: character,
         tag: tags::INT,
     }
 }

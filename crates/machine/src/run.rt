@@ -18,7 +18,7 @@ ghost use Rattle.rules.specs.Run.{runFrom, run};
 ghost use Rattle.state.specs.Outcomes.{stepped};
 ghost use Rattle.machine.specs.Outcomes.{ran};
 
-// One step of a sound state with HALT 0, neither of which is asked again: 2 to 8 in order, or what the instruction does.
+// One step of a sound state with HALT 0, neither of which is asked again: 2 to 7 in order, 12 and 8, or what the instruction does.
 fn take_step(
     table: &[u64],
     count: usize,
@@ -26,17 +26,18 @@ fn take_step(
     bits: &mut [u32],
     tags: &mut [u8],
     history: &mut [u64],
+    output: &mut [u8],
 ) -> Step
-    requires { ⌜ sound (program (now table) count) r (memory (now bits) (now tags) (now history)) ≡ true ⌝ }
+    requires { ⌜ sound (program (now table) count) r (memory (now bits) (now tags) (now history) (now output)) ≡ true ⌝ }
     requires { ⌜ r .halt ≡ 0 ⌝ }
-    ensures { λ a. ⌜ stepped a (now (bits .exit)) (now (tags .exit)) (now (history .exit)) ≡ step (program (now (table .entry)) count) r (memory (now (bits .entry)) (now (tags .entry)) (now (history .entry))) ⌝ }
+    ensures { λ a. ⌜ stepped a (now (bits .exit)) (now (tags .exit)) (now (history .exit)) (now (output .exit)) ≡ step (program (now (table .entry)) count) r (memory (now (bits .entry)) (now (tags .entry)) (now (history .entry)) (now (output .entry))) ⌝ }
 {
     let pc = r.pc;
     if pc == count {
         return Step::Refused(MachineRefusal::AtEnd);
     }
     let d = decide::decide_at(table[pc], r, bits, tags);
-    carry::carry(r, d, bits, tags, history)
+    carry::carry(r, d, bits, tags, history, output)
 }
 
 // The same registers. N and H are written down as those of the run's start, which they are, so that the compiler does not carry them from step to step.
@@ -53,6 +54,7 @@ fn with_sizes(n: usize, h: usize, r: Registers) -> Registers
         halt: r.halt,
         used: r.used,
         kept: r.kept,
+        written: r.written,
     }
 }
 
@@ -75,11 +77,12 @@ pub(crate) fn run_from(
     bits: &mut [u32],
     tags: &mut [u8],
     history: &mut [u64],
+    output: &mut [u8],
     limit: usize,
 ) -> Run
-    requires { ⌜ sound (program (now table) count) r (memory (now bits) (now tags) (now history)) ≡ true ⌝ }
+    requires { ⌜ sound (program (now table) count) r (memory (now bits) (now tags) (now history) (now output)) ≡ true ⌝ }
     requires { ⌜ limit ≤ maxLimit ⌝ }
-    ensures { λ a. ⌜ ran a (now (bits .exit)) (now (tags .exit)) (now (history .exit)) ≡ runFrom (program (now (table .entry)) count) limit 0 r (memory (now (bits .entry)) (now (tags .entry)) (now (history .entry))) ⌝ }
+    ensures { λ a. ⌜ ran a (now (bits .exit)) (now (tags .exit)) (now (history .exit)) (now (output .exit)) ≡ runFrom (program (now (table .entry)) count) limit 0 r (memory (now (bits .entry)) (now (tags .entry)) (now (history .entry)) (now (output .entry))) ⌝ }
     ensures { λ a. ⌜ a .steps ≤ limit ⌝ }
 {
     if r.halt != 0 {
@@ -88,7 +91,7 @@ pub(crate) fn run_from(
     let mut left = limit;
     let mut at = r;
     while 0 < left {
-        let next = take_step(table, count, at, bits, tags, history);
+        let next = take_step(table, count, at, bits, tags, history, output);
         match next {
             Step::Refused(refusal) => return ended(limit - left, Ending::Stopped(refusal), at),
             Step::Next(registers) => {
@@ -111,18 +114,19 @@ pub fn run(
     bits: &mut [u32],
     tags: &mut [u8],
     history: &mut [u64],
+    output: &mut [u8],
     limit: usize,
 ) -> Run
-    ensures { λ a. ⌜ a ≡ run (program (now (table .entry)) length) limit r (memory (now (bits .entry)) (now (tags .entry)) (now (history .entry))) .answer ⌝ }
-    ensures { λ _. ⌜ memory (now (bits .exit)) (now (tags .exit)) (now (history .exit)) ≡ run (program (now (table .entry)) length) limit r (memory (now (bits .entry)) (now (tags .entry)) (now (history .entry))) .memory ⌝ }
+    ensures { λ a. ⌜ a ≡ run (program (now (table .entry)) length) limit r (memory (now (bits .entry)) (now (tags .entry)) (now (history .entry)) (now (output .entry))) .answer ⌝ }
+    ensures { λ _. ⌜ memory (now (bits .exit)) (now (tags .exit)) (now (history .exit)) (now (output .exit)) ≡ run (program (now (table .entry)) length) limit r (memory (now (bits .entry)) (now (tags .entry)) (now (history .entry)) (now (output .entry))) .memory ⌝ }
     ensures { λ a. ⌜ a .steps ≤ limit ⌝ }
 {
     if sizes::MAX_LIMIT < limit {
         return ended(0, Ending::Stopped(MachineRefusal::OutsideSizes), r);
     }
-    let sound = state::is_sound(table, length, r, bits, tags, history);
+    let sound = state::is_sound(table, length, r, bits, tags, history, output);
     if !sound {
         return ended(0, Ending::Stopped(MachineRefusal::Broken), r);
     }
-    run_from(table, length, r, bits, tags, history, limit)
+    run_from(table, length, r, bits, tags, history, output, limit)
 }

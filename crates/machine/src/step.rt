@@ -1,4 +1,4 @@
-// One step: "10, then 1 to 8 in order". It is a run of one step, so that the machine has one way to make a step.
+// One step: "10, then 1 to 8 in order", with 12 "after 7 and before 8". It is a run of one step, so that the machine has one way to make a step.
 use crate::run;
 use rules::Ending;
 use rules::MachineRefusal;
@@ -33,15 +33,16 @@ pub fn step(
     bits: &mut [u32],
     tags: &mut [u8],
     history: &mut [u64],
+    output: &mut [u8],
 ) -> Step
-    ensures { λ a. ⌜ stepped a (now (bits .exit)) (now (tags .exit)) (now (history .exit)) ≡ step (program (now (table .entry)) length) r (memory (now (bits .entry)) (now (tags .entry)) (now (history .entry))) ⌝ }
+    ensures { λ a. ⌜ stepped a (now (bits .exit)) (now (tags .exit)) (now (history .exit)) (now (output .exit)) ≡ step (program (now (table .entry)) length) r (memory (now (bits .entry)) (now (tags .entry)) (now (history .entry)) (now (output .entry))) ⌝ }
 {
-    let sound = state::is_sound(table, length, r, bits, tags, history);
+    let sound = state::is_sound(table, length, r, bits, tags, history, output);
     if !sound {
         return Step::Refused(MachineRefusal::Broken);
     }
     if r.halt != 0 {
         return Step::Refused(MachineRefusal::AlreadyHalted);
     }
-    only_step(run::run_from(table, length, r, bits, tags, history, 1))
+    only_step(run::run_from(table, length, r, bits, tags, history, output, 1))
 }

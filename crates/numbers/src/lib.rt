@@ -15,7 +15,7 @@ use rules::TextRefusal;
 ghost use mathlib.Core.Path.{_≡_};
 ghost use Rattle.rules.specs.Numbers.{machineNumber, textNumber, imageNumber, numberOfReset, numberOfStep, numberOfEnding, numberOfAssembled, lengthOfAssembled, positionOfAssembled, numberOfListed, lengthOfListed, numberOfPacked, lengthOfPacked, unreadNumber, numberOfDwell, tenthsOfDwell};
 
-// The number of a refusal of the machine: 1 to 11.
+// The number of a refusal of the machine: 1 to 12.
 pub fn machine_number(e: MachineRefusal) -> u32
     ensures { λ r. ⌜ r ≡ machineNumber e ⌝ }
 {
@@ -31,6 +31,7 @@ pub fn machine_number(e: MachineRefusal) -> u32
         MachineRefusal::NoHistory => 9,
         MachineRefusal::Broken => 10,
         MachineRefusal::OutsideSizes => 11,
+        MachineRefusal::OutputFull => 12,
     }
 }
 

@@ -1,4 +1,5 @@
-// History places: each field of the two kinds of place, read. Every width is that of document 01, "History places". The machine makes the places.
+// History places: each field of the two kinds of place, read. Every width is that of document 01, "History places", and document 02, letter h. The machine
+// makes the places.
 ghost use mathlib.Core.Path.{_≡_};
 ghost use Rattle.rules.specs.Places.{mark, cellAddress, cellTag, cellBits, cellZeros, stepPc, stepSp, stepFbr, stepCount, stepZeros};
 
@@ -11,12 +12,12 @@ pub const STEP_MARK: u64 = 1;
 // The mark stands first in both kinds of place.
 pub const MARK_WEIGHT: u64 = 0x8000_0000_0000_0000;
 
-// "address 10, old tag 2, old bits 32, 19 zeros"
+// "address 10, .. old bits 32", and "The old tag .. becomes 3 bits and its zeros 18" (02 h)
 pub const ADDRESS_WEIGHT: u64 = 0x0020_0000_0000_0000;
 
-pub const TAG_WEIGHT: u64 = 0x0008_0000_0000_0000;
+pub const TAG_WEIGHT: u64 = 0x0004_0000_0000_0000;
 
-pub const BITS_WEIGHT: u64 = 0x0000_0000_0008_0000;
+pub const BITS_WEIGHT: u64 = 0x0000_0000_0004_0000;
 
 // "old PC 11, old SP 10, old FBR 10, cells written 10, 22 zeros"
 pub const PC_WEIGHT: u64 = 0x0010_0000_0000_0000;
@@ -30,7 +31,7 @@ pub const COUNT_WEIGHT: u64 = 0x0000_0000_0040_0000;
 // An address, SP, FBR and a count of cells have ten bits.
 const CELL_SPAN: u64 = 0x400;
 
-const TAG_SPAN: u64 = 0x4;
+const TAG_SPAN: u64 = 0x8;
 
 const BITS_SPAN: u64 = 0x1_0000_0000;
 

@@ -1,4 +1,4 @@
--- The codes that have an operand are nine; every other code has none. Assumes nothing.
+-- The codes that have an operand are ten; every other code has none. Assumes nothing.
 use Prim.Native.Nat.{ℕ, _≤_}
 use mathlib.Core.Path.{_≡_, refl, sym, ap, _∙_}
 use mathlib.Core.Bool.{Bool, true, false, _||_, false≢true}
@@ -8,7 +8,7 @@ use lib.ListN.{List·getD-eq-default}
 use borrow.Author.Tests.{ltb-true, ltb-false, ne-eqb}
 use Rattle.rules.specs.Instructions.{Row, rows, rowOf, kindOf, codes}
 use Rattle.rules.specs.declared.Kind.{Kind}
-use Rattle.rules.specs.declared.Kind.the-variants.{Bare, Immediate, Pattern, Offset, Target}
+use Rattle.rules.specs.declared.Kind.the-variants.{Bare, Immediate, Pattern, Offset, Target, Character}
 use Rattle.rules.proofs.Tests.{by-test, below, at-below}
 
 isBare : Kind → Bool
@@ -17,6 +17,7 @@ isBare Immediate = false
 isBare Pattern = false
 isBare Offset = false
 isBare Target = false
+isBare Character = false
 
 bare-is : (k : Kind) → isBare k ≡ true → k ≡ Bare
 unfolding isBare
@@ -25,6 +26,7 @@ bare-is Immediate h = absurd (false≢true h)
 bare-is Pattern h = absurd (false≢true h)
 bare-is Offset h = absurd (false≢true h)
 bare-is Target h = absurd (false≢true h)
+bare-is Character h = absurd (false≢true h)
 
 -- one of the numbers
 oneOf : List ℕ → ℕ → Bool
@@ -33,7 +35,7 @@ oneOf (x ∷ xs) c = eqb c x || oneOf xs c
 
 -- the codes with an operand, the last first
 abbrev pub operandCodes : List ℕ
-operandCodes = 49 ∷ 47 ∷ 45 ∷ 44 ∷ 43 ∷ 42 ∷ 39 ∷ 2 ∷ 1 ∷ []
+operandCodes = 52 ∷ 49 ∷ 47 ∷ 45 ∷ 44 ∷ 43 ∷ 42 ∷ 39 ∷ 2 ∷ 1 ∷ []
 
 -- none of the numbers, as the `_` of a match has it
 abbrev pub NoneOf : List ℕ → ℕ → Type 0

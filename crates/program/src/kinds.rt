@@ -20,6 +20,7 @@ pub fn kind_of(code: usize) -> Kind
         codes::JUMPC => Kind::Target,
         codes::JSR => Kind::Target,
         codes::PUSHIMMPA => Kind::Target,
+        codes::PUSHIMMCH => Kind::Character,
         _ => Kind::Bare,
     }
 }
@@ -39,5 +40,6 @@ pub fn is_within(kind: Kind, count: usize, operand: u32) -> bool
             sizes::MIN_OFFSET <= operand
         }
         Kind::Target => operand as usize <= count,
+        Kind::Character => operand <= sizes::MAX_CHARACTER,
     }
 }

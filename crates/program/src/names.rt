@@ -74,6 +74,8 @@ fn name_word(code: usize) -> u64
         codes::PUSHIMMPA => 0x1835a944eb0,
         codes::ITOF => 0x33e89,
         codes::FTOI => 0x4be86,
+        codes::PUSHIMMCH => 0x81b5a944eb0,
+        codes::WRITECH => 0x2065a2657,
         _ => 0,
     }
 }

@@ -6,7 +6,7 @@ use mathlib.Core.Bool.{Bool, true, false}
 use mathlib.Core.List.{List, [], _∷_}
 use native.Mathlib.Omega.{arith}
 use lib.Dec.{leb}
-use lib.ListN.{replicate}
+use lib.ListN.{length, replicate}
 use borrow.Author.Tests.{leb-true}
 use Rattle.rules.specs.Sizes.{maxLimit}
 use Rattle.rules.specs.Table.{Program}
@@ -36,7 +36,7 @@ module _ (p : Program) (s₀ : State) (good₀ : Good p s₀) (empty : s₀ .reg
   -- ---- a step
 
   -- a refused one leaves everything, and an accepted one is one more on the trail
-  keep-decided : (s : Session) → Kept p s₀ s → (d : Decision) → judged p (s .registers) (s .memory .cells) ≡ d
+  keep-decided : (s : Session) → Kept p s₀ s → (d : Decision) → judged p (s .registers) (s .memory .cells) (length (s .memory .output)) ≡ d
       → Kept p s₀ (stepped s (carried (s .registers) (s .memory) d))
   keep-decided s w (Does e) q =
       record { far = suc (w .far); trail = (stateOf s, e, w .trail, q, refl); count = omega (arith, w .count) }
@@ -45,7 +45,7 @@ module _ (p : Program) (s₀ : State) (good₀ : Good p s₀) (empty : s₀ .reg
   pub keep-step : (s : Session) → Kept p s₀ s → Kept p s₀ (ask p s step)
   keep-step s w =
       subst (λ (o : Stepped). Kept p s₀ (stepped s o)) (sym (step-good p (stateOf s) (good-kept s w)))
-      (keep-decided s w (judged p (s .registers) (s .memory .cells)) refl)
+      (keep-decided s w (judged p (s .registers) (s .memory .cells) (length (s .memory .output))) refl)
 
   -- ---- a step-back
 

@@ -1,4 +1,4 @@
--- A reset that is accepted leaves a good state: sound, its cells of 32 bits, its history zero. Assumes nothing.
+-- A reset that is accepted leaves a good state: sound, its cells of 32 bits, its history and its output zero. Assumes nothing.
 use Prim.Native.Nat.{ℕ, _≤_, zero-le}
 use mathlib.Core.Path.{_≡_, refl, sym, ap, _∙_, subst}
 use mathlib.Core.Bool.{Bool, true, false, cond}
@@ -8,6 +8,7 @@ use lib.Dec.{lit<}
 use lib.ListN.{length, getD, replicate, length-replicate}
 use borrow.Author.Tests.{leb-true, eqb-true}
 use Rattle.rules.specs.Lists.{every}
+use Rattle.rules.specs.Sizes.{maxOutput}
 use Rattle.rules.specs.Table.{Program, soundTable}
 use Rattle.rules.specs.Tags.{int}
 use Rattle.rules.specs.State.{Memory}
@@ -53,12 +54,12 @@ reset-ready p m sizes table = rw (sizes, table) refl
 
 -- what it leaves hangs on the sizes of the lent memory alone
 begun-sized : (m m′ : Memory) → SameSizes m m′ → begun m ≡ begun m′
-begun-sized m m′ same = rw (same .bits, same .tags, same .history)
+begun-sized m m′ same = rw (same .bits, same .tags, same .history, same .output)
 
 pub reset-sized : (p : Program) (m m′ : Memory) → reset p m .answer .begun ≡ Ready → SameSizes m m′ → reset p m ≡ reset p m′
 reset-sized p m m′ ready same =
     let a : Accepted p m = reset-accepted p m ready in
-    let sizes : every (sizeTests m′) ≡ true = rw (sym (same .bits), sym (same .tags), sym (same .history)) (a .sizes) in
+    let sizes : every (sizeTests m′) ≡ true = rw (sym (same .bits), sym (same .tags), sym (same .history), sym (same .output)) (a .sizes) in
     let b : Accepted p m′ = reset-accepted p m′ (reset-ready p m′ sizes (a .table)) in
     a .leaves ∙ begun-sized m m′ same ∙ sym (b .leaves)
 
@@ -89,10 +90,16 @@ good-begun p m a =
             used = zero-le;
             kept = zero-le;
             none = λ q. refl;
+            shown = let same = length-replicate {A = ℕ} (length (m .output)) 0 in omega (arith, same, leb-true (length (m .output)) maxOutput (at 4));
+            written = zero-le;
             cells = λ k. rw (zeros-at (length (m .cells .bits)) k, zeros-at (length (m .cells .tags)) k) zero-cell;
           });
       narrow = λ k. rw (zeros-at (length (m .cells .bits)) k) (lit< tt);
-      blank = ap (λ (k : ℕ). replicate k 0) (sym (sub-zero (length (m .history))));
+      blank =
+          record {
+            history = ap (λ (k : ℕ). replicate k 0) (sym (sub-zero (length (m .history))));
+            output = ap (λ (k : ℕ). replicate k 0) (sym (sub-zero _ ∙ length-replicate (length (m .output)) 0));
+          };
     }
 
 module _ (p : Program) (m : Memory) (a : Accepted p m) where

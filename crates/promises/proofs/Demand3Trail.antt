@@ -6,6 +6,7 @@ use native.Mathlib.Nat.{pos-of-ne-zero}
 use native.Mathlib.Numerals.{add-one}
 use native.Mathlib.Omega.{arith}
 use lib.Dec.{eqb}
+use lib.ListN.{length}
 use borrow.Author.Tests.{eq-eqb, eqb-true, eqb-false}
 use Rattle.rules.specs.Table.{Program}
 use Rattle.rules.specs.State.{Memory, sound}
@@ -28,7 +29,7 @@ use Rattle.promises.proofs.Runs.{standing, afterSteps, steps-end}
 
 -- ---- states
 
--- registers, cells, tags and history
+-- registers, cells, tags, history and output
 pub record State : Type 0 where
   pub registers : Registers
   pub memory : Memory
@@ -37,7 +38,7 @@ pub record State : Type 0 where
 abbrev pub committed : State → Effect → State
 committed s e = record { registers = registersOf (s .registers) e; memory = memoryOf (s .registers) (s .memory) e }
 
--- a state that a machine can be in: sound, its cells of 32 bits, its unused history places zero
+-- a state that a machine can be in: sound, its cells of 32 bits, its unused history places and the rest of its output zero
 pub record Good (p : Program) (s : State) : Type 0 where
   pub sound : sound p (s .registers) (s .memory) ≡ true
   pub narrow : Narrow (s .memory)
@@ -47,12 +48,12 @@ pub record Good (p : Program) (s : State) : Type 0 where
 
 module _ (p : Program) (s : State) (g : Good p s) where
   -- what a step of a good state answers and leaves is what it decides, carried out
-  pub step-good : Step.step p (s .registers) (s .memory) ≡ carried (s .registers) (s .memory) (judged p (s .registers) (s .memory .cells))
+  pub step-good : Step.step p (s .registers) (s .memory) ≡ carried (s .registers) (s .memory) (judged p (s .registers) (s .memory .cells) (length (s .memory .output)))
   unfolding plainStep
   step-good = step-plain p (s .registers) (s .memory) (g .sound)
 
   -- an accepted step leaves a good state
-  pub good-committed : (e : Effect) → judged p (s .registers) (s .memory .cells) ≡ Does e → Good p (committed s e)
+  pub good-committed : (e : Effect) → judged p (s .registers) (s .memory .cells) (length (s .memory .output)) ≡ Does e → Good p (committed s e)
   good-committed e q =
       record {
         sound = sound-judged p (s .registers) (s .memory) e (g .sound) q;
@@ -71,7 +72,7 @@ module _ (p : Program) (s : State) (g : Good p s) where
 abbrev pub Trail : Program → State → ℕ → State → Type 0
 Trail p s₀ zero s = s ≡ s₀
 Trail p s₀ (suc k) s =
-    (t : State) × (e : Effect) × Trail p s₀ k t × (judged p (t .registers) (t .memory .cells) ≡ Does e) × (s ≡ committed t e)
+    (t : State) × (e : Effect) × Trail p s₀ k t × (judged p (t .registers) (t .memory .cells) (length (t .memory .output)) ≡ Does e) × (s ≡ committed t e)
 
 module _ (p : Program) (s₀ : State) (good₀ : Good p s₀) where
   pub good-trail : (k : ℕ) (s : State) → Trail p s₀ k s → Good p s

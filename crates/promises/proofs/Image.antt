@@ -17,14 +17,14 @@ use lib.ListN.{length, take, drop, replicate, length-append, length-replicate}
 use lib.Pow.{pow-pos, split}
 use lib.Seq.{take-at, drop-at, length-take-le}
 use Rattle.rules.specs.Lists.{all}
-use Rattle.rules.specs.Sizes.{maxProgram, imageSize, maxOffset}
+use Rattle.rules.specs.Sizes.{maxProgram, imageSize, maxOffset, maxCharacter}
 use Rattle.rules.specs.Numbers.{lengthOfPacked}
 use Rattle.rules.specs.Fields.{field, value, bitsOf}
 use Rattle.rules.specs.Instructions.{codes, kindOf}
 use Rattle.rules.specs.Table.{Program, placeOf, codeOf, operandOf, within, soundPlace, soundTable}
 use Rattle.rules.specs.Image.{widthOf, instructionBits, programBits, imageBits, imageLength, packedTo, Filed, pack, extended, takeOperand, takeOne, places, unfit, prepend, padded, atEnd, unpackFrom, unpacked, filed, unpack}
 use Rattle.rules.specs.declared.Kind.{Kind}
-use Rattle.rules.specs.declared.Kind.the-variants.{Bare, Immediate, Pattern, Offset, Target}
+use Rattle.rules.specs.declared.Kind.the-variants.{Bare, Immediate, Pattern, Offset, Target, Character}
 use Rattle.rules.specs.declared.ImageRefusal.the-variants.{BadPadding}
 use Rattle.rules.specs.declared.Packed.the-variants.{Length}
 use Rattle.rules.specs.declared.Taken.the-variants.{Place}
@@ -67,6 +67,7 @@ operand-back Immediate count v l h e = mod-eq-of-lt h
 operand-back Pattern count v l h e = mod-eq-of-lt h
 operand-back Offset count v l h e = offset-back v h e
 operand-back Target count v l h e = let z : v ≤ count = leb-true v count e in omega arith
+operand-back Character count v l h e = let z : v ≤ maxCharacter = leb-true v maxCharacter e in omega arith
 
 -- ---- an instruction, and then the others
 

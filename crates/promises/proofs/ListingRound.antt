@@ -8,7 +8,7 @@ use lib.Dec.{eqb}
 use lib.ListN.{length, getD, length-append}
 use borrow.Author.Tests.{leb-true, eqb-true}
 use Rattle.rules.specs.Lists.{all}
-use Rattle.rules.specs.Sizes.{maxProgram}
+use Rattle.rules.specs.Sizes.{maxProgram, maxCharacter}
 use Rattle.rules.specs.Bytes.{LF, space, hash, isWord}
 use Rattle.rules.specs.Tokens.{tokens}
 use Rattle.rules.specs.Instructions.{codes, nameOf, kindOf}
@@ -16,7 +16,7 @@ use Rattle.rules.specs.Table.{placeOf, codeOf, operandOf, within, soundPlace}
 use Rattle.rules.specs.Assemble.{Item, finished, numbered, instruction, Progress, item, plainNumber, targetNumber, targetOf, operandOfKind, go, withItem, awaiting, begunAs, newOperand, judgeAs, judgeToken, done, settle, finishAs, judge, nothing, translated}
 use Rattle.rules.specs.Listing.{decimal, signedText, hex, operandText, spaced, lineOf, listing}
 use Rattle.rules.specs.declared.Kind.{Kind}
-use Rattle.rules.specs.declared.Kind.the-variants.{Bare, Immediate, Pattern, Offset, Target}
+use Rattle.rules.specs.declared.Kind.the-variants.{Bare, Immediate, Pattern, Offset, Target, Character}
 use Rattle.rules.specs.declared.Numeral.the-variants.{Value}
 use Rattle.rules.proofs.Tests.{and-left, and-right}
 use Rattle.rules.proofs.Tokens.{tokens-alone, tokens-line}
@@ -115,6 +115,10 @@ module _ (size n w : ℕ) (s : Progress) (at : ℕ) (rest : List ℕ) (h : codeO
   by-kind Target e f =
       let l = leb-true v n f in
       with-operand (decimal 9 v) (numbered c m v) (rw e) (wordlike-decimal v) (rw e (target-read l)) (settles-numbered n c m v w l whole)
+  by-kind Character e f =
+      let l = leb-true v maxCharacter f in
+      with-operand (decimal 9 v) (finished w) (rw e) (wordlike-decimal v)
+      (plain-read (decimal 9 v) (rw (e, number-decimal 0 maxCharacter v (omega arith) ∙ ranged-most 0 maxCharacter v l))) (settles-finished n w)
 
   adds-line : within (kindOf c) n v ≡ true → Adds size n w s at (lineOf w) rest
   unfolding lineOf

@@ -8,7 +8,7 @@ use native.Mathlib.Omega.{arith}
 use lib.Dec.{eqb, leb, ltb}
 use lib.ListN.{length}
 use borrow.Author.Tests.{ltb-true, eqb-false}
-use Rattle.rules.specs.Sizes.{maxProgram, maxLabels, maxLabel, maxOffset}
+use Rattle.rules.specs.Sizes.{maxProgram, maxLabels, maxLabel, maxOffset, maxCharacter}
 use Rattle.rules.specs.Bytes.{isWord}
 use Rattle.rules.specs.Tokens.{Token, tokens}
 use Rattle.rules.specs.Operands.{numberOf, floatOf}
@@ -17,7 +17,7 @@ use Rattle.rules.specs.Instructions.{codes, kindOf}
 use Rattle.rules.specs.Table.{placeOf}
 use Rattle.rules.specs.Assemble.{codeNamed, allowedRun, body, isLabel, Label, Found, nowhere, foundAt, lookup, Item, finished, numbered, beyond, labelled, Awaited, instruction, operandFor, Progress, Reading, item, bad, plainNumber, targetNumber, targetLabel, targetOf, operandOfKind, Judged, go, stop, addLabel, newLabel, begunAs, newName, newOperand, judgeAs, judgeToken, Outcome, done, refused, join, settleLabel, settle, finishAs, finish, after, judge, nothing, translated}
 use Rattle.rules.specs.declared.Kind.{Kind}
-use Rattle.rules.specs.declared.Kind.the-variants.{Bare, Immediate, Pattern, Offset, Target}
+use Rattle.rules.specs.declared.Kind.the-variants.{Bare, Immediate, Pattern, Offset, Target, Character}
 use Rattle.rules.specs.declared.Numeral.{Numeral}
 use Rattle.rules.specs.declared.Numeral.the-variants.{Value, WrongForm, OutOfRange}
 use Rattle.rules.specs.declared.TextRefusal.{TextRefusal}
@@ -102,6 +102,7 @@ module _ (size : ℕ) where
     operand-right Pattern c t = plain-right c (floatOf t)
     operand-right Offset c t = plain-right c (numberOf maxOffset maxOffset t)
     operand-right Target c t = target-word-right c t (isWord t)
+    operand-right Character c t = plain-right c (numberOf 0 maxCharacter t)
 
     module _ (s : Progress) (kept : Kept s) where
       add-right : (w : List ℕ) (f : Found) → RightJudged (addLabel s at w f)
@@ -118,6 +119,7 @@ module _ (size : ℕ) where
       begun-right c Pattern = kept
       begun-right c Offset = kept
       begun-right c Target = kept
+      begun-right c Character = kept
 
       name-right : (c : ℕ) → RightJudged (newName s at c)
       unfolding newName

@@ -75,3 +75,6 @@ use Rattle.rules.specs.Doors.{all-read}
 
 use Rattle.promises.proofs.TakesBack.{takes-back}
 use Rattle.rules.specs.KeptNumbers.{all-kept}
+-- ---- Request h: "Demand 3 now includes output bytes and their count.": `demand3` and `inverse` have them, among the memory and the registers
+
+use Rattle.rules.specs.Characters.{all-characters}

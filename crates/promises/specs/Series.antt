@@ -1,8 +1,8 @@
 -- Demand 3: "From the latest accepted reset, with one program throughout, take any series of steps, limited runs and step-backs, refused ones among them,
 -- with program, registers and memory handed back untouched between calls. If S steps (those inside runs too) and B step-backs were accepted, registers,
 -- cells, tags and history equal those of a fresh reset of the same sizes followed by S minus B steps under demand 2. With history room above zero, a
--- step-back is refused exactly when S equals B; with none, always." And request g: "How many steps can I take back?" Here is what they say;
--- proofs/Demand3.antt and proofs/TakesBack.antt show it. Assumes nothing.
+-- step-back is refused exactly when S equals B; with none, always." Request g: "How many steps can I take back?" Request h: "Demand 3 now includes output bytes
+-- and their count." Here is what they say; proofs/Demand3.antt and proofs/TakesBack.antt show it. Assumes nothing.
 use Prim.Native.Nat.{ℕ, _+_, _-_, _≤_, min}
 use mathlib.Core.Path.{_≡_}
 use mathlib.Core.Bool.{_||_, cond}
@@ -28,7 +28,7 @@ pub data Request : Type 0 where
   run : ℕ → Request
   back : Request
 
--- where a series stands: the registers, the cells and the history; S, the steps accepted, and B, the step-backs accepted
+-- where a series stands: the registers, the output's used count among them, and cells, history and output; S, the steps accepted, and B, the step-backs accepted
 pub record Session : Type 0 where
   pub registers : Registers
   pub memory : Memory
@@ -82,11 +82,12 @@ series p (q ∷ qs) s = series p qs (ask p s q)
 abbrev pub fromHere : Session → Session
 fromHere s = record { registers = s .registers; memory = s .memory; made = 0; undone = 0 }
 
--- "of the same sizes": as many cells, tags and history places, whatever they hold
+-- "of the same sizes": as many cells, tags, history places and bytes of output, whatever they hold
 pub record SameSizes (m m′ : Memory) : Type 0 where
   pub bits : length (m .cells .bits) ≡ length (m′ .cells .bits)
   pub tags : length (m .cells .tags) ≡ length (m′ .cells .tags)
   pub history : length (m .history) ≡ length (m′ .history)
+  pub output : length (m .output) ≡ length (m′ .output)
 
 -- a fresh reset of the lent memory
 abbrev pub fresh : Program → Memory → Session
@@ -101,7 +102,7 @@ afresh p m k = series p (replicate k step) (fresh p m)
 pub record Promised (p : Program) (m : Memory) (s : Session) : Type 0 where
   -- no more is taken back than was made
   pub within : s .undone ≤ s .made
-  -- "registers, cells, tags and history equal those of a fresh reset .. followed by S minus B steps"
+  -- "registers, cells, tags and history equal those of a fresh reset .. followed by S minus B steps", and so do "output bytes and their count" (02 h)
   pub registers : s .registers ≡ afresh p m (s .made - s .undone) .registers
   pub memory : s .memory ≡ afresh p m (s .made - s .undone) .memory
   -- each of which is accepted

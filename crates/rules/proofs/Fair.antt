@@ -5,21 +5,24 @@ use mathlib.Core.Path.{_≡_}
 use mathlib.Core.Bool.{true}
 use mathlib.Core.List.{List}
 use lib.ListN.{getD, length, drop, replicate}
-use Rattle.rules.specs.Sizes.{maxCells, maxHistory}
+use Rattle.rules.specs.Sizes.{maxCells, maxHistory, maxOutput, maxCharacter}
 use Rattle.rules.specs.Table.{Program, soundTable}
-use Rattle.rules.specs.Tags.{PA}
+use Rattle.rules.specs.Tags.{PA, CH}
 use Rattle.rules.specs.State.{Memory}
-use Rattle.rules.specs.Commit.{roomFor}
+use Rattle.rules.specs.Commit.{roomOn, roomFor}
 use Rattle.rules.specs.Step.{decideAt}
 use Rattle.rules.specs.declared.Cell.{Cell}
 use Rattle.rules.specs.declared.Decision.the-variants.{Does}
+use Rattle.rules.specs.declared.Shown.{Shown}
+use Rattle.rules.specs.declared.Shown.the-variants.{Nothing, Byte}
 use Rattle.rules.specs.declared.Effect.{Effect}
 use Rattle.rules.specs.declared.Registers.{Registers}
 
 -- a cell that a sound state may hold
 pub record FairCell (count : ℕ) (c : Cell) : Type 0 where
-  pub tag : c .tag ≤ PA
+  pub tag : c .tag ≤ CH
   pub pa : c .tag ≡ PA → c .bits ≤ count
+  pub ch : c .tag ≡ CH → c .bits ≤ maxCharacter
 
 -- each cell of these tags and bits; past their end there is INT 0
 abbrev pub FairCells : ℕ → List ℕ → List ℕ → Type 0
@@ -41,6 +44,8 @@ pub record Sound (p : Program) (r : Registers) (m : Memory) : Type 0 where
   pub used : r .used ≤ r .h
   pub kept : r .kept ≤ r .used
   pub none : r .kept ≡ 0 → r .used ≡ 0
+  pub shown : length (m .output) ≤ maxOutput
+  pub written : r .written ≤ length (m .output)
   pub cells : FairCells (p .count) (m .cells .tags) (m .cells .bits)
 
 -- what is so where a step is accepted with the effect e
@@ -48,10 +53,16 @@ pub record Going (p : Program) (r : Registers) (m : Memory) (e : Effect) : Type 
   pub running : r .halt ≡ 0
   pub inside : r .pc ≡ p .count → ⊥
   pub sp : e .sp < r .n
+  pub panel : roomOn (length (m .output)) (r .written) (e .shows) ≡ true
   pub room : roomFor r e ≡ true
   pub decides : decideAt r (m .cells) (getD (p .places) (r .pc) 0) ≡ Does e
 
--- the written cells lie within N, the new registers within their ranges, and the written cells may be held
+-- what is shown is a character
+abbrev pub FairByte : Shown → Type 0
+FairByte Nothing = Unit {0}
+FairByte (Byte b) = b ≤ maxCharacter
+
+-- the written cells lie within N, the new registers within their ranges, and what is written may be held
 pub record Fair (p : Program) (r : Registers) (e : Effect) : Type 0 where
   pub fits : e .at + e .count ≤ r .n
   pub pc : e .pc ≤ p .count
@@ -60,11 +71,13 @@ pub record Fair (p : Program) (r : Registers) (e : Effect) : Type 0 where
   pub halt : e .halt ≤ 1
   pub first : FairCell (p .count) (e .first)
   pub second : FairCell (p .count) (e .second)
+  pub shows : FairByte (e .shows)
 
 -- every cell has 32 bits, as every lent slice of them has
 abbrev pub Narrow : Memory → Type 0
 Narrow m = (k : ℕ) → getD (m .cells .bits) k 0 < 2 ^ 32
 
--- the places that no record uses are zero, as a reset leaves them
-abbrev pub Blank : Registers → Memory → Type 0
-Blank r m = drop (r .used) (m .history) ≡ replicate (r .h - r .used) 0
+-- the places that no record uses, and the bytes behind those written, are zero, as a reset leaves them
+pub record Blank (r : Registers) (m : Memory) : Type 0 where
+  pub history : drop (r .used) (m .history) ≡ replicate (r .h - r .used) 0
+  pub output : drop (r .written) (m .output) ≡ replicate (length (m .output) - r .written) 0

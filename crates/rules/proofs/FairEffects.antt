@@ -10,45 +10,53 @@ use lib.Dec.{leb, ltb, eqb, lit≤}
 use lib.IntN.{ℤ, pos, negsuc, _+ℤ_}
 use lib.ListN.{length, getD}
 use borrow.Author.Tests.{ltb-true, leb-true, eqb-true, eqb-false, eq-eqb, not-true}
-use Rattle.rules.specs.Tags.{INT, FLOAT, MA, PA, int, float, ma, pa, has}
+use Rattle.rules.specs.Tags.{INT, FLOAT, MA, PA, CH, int, float, ma, pa, ch, has}
+use Rattle.rules.specs.Sizes.{maxCharacter}
 use Rattle.rules.specs.Words.{signed, holds}
 use Rattle.rules.specs.Instructions.{Row, codes, rows, kindOf, actionOf}
 use Rattle.rules.specs.Table.{Program, codeOf, operandOf, within, soundPlace}
 use Rattle.rules.specs.Cells.{Cells, cellAt}
 use Rattle.rules.specs.State.{Memory, soundCell, soundCells, stateTests, sound}
 use Rattle.rules.specs.Decide.{Action, demand, enough, onValues, decide}
-use Rattle.rules.specs.Effects.{memoryAddress, programAddress, following, result, swapped, stored, moved, framed, linked, jumped, called, halted}
+use Rattle.rules.specs.Effects.{memoryAddress, programAddress, following, result, swapped, stored, moved, framed, linked, jumped, called, shown, halted}
 use Rattle.rules.specs.Actions.{inside, frame}
-use Rattle.rules.specs.Commit.{roomFor}
-use Rattle.rules.specs.Step.{decideAt, fitted, judged}
+use Rattle.rules.specs.Step.{decideAt, fitting, judged}
 use Rattle.rules.specs.declared.Cell.{Cell}
 use Rattle.rules.specs.declared.MemoryAddress.{MemoryAddress}
 use Rattle.rules.specs.declared.ProgramAddress.{ProgramAddress}
 use Rattle.rules.specs.declared.Registers.{Registers}
 use Rattle.rules.specs.declared.Effect.{Effect}
-use Rattle.rules.specs.declared.Kind.{Kind}
-use Rattle.rules.specs.declared.Kind.the-variants.{Bare, Immediate, Pattern, Offset, Target}
 use Rattle.rules.specs.declared.Decision.{Decision}
 use Rattle.rules.specs.declared.Decision.the-variants.{Does, Refuses}
 use Rattle.rules.specs.declared.MachineRefusal.{MachineRefusal}
 use Rattle.rules.proofs.Tests.{either, and-left, and-right, implies-true, every-at}
 use Rattle.rules.proofs.Table.{place-sound}
 use Rattle.rules.proofs.Rows.{EachRow, end, _then_, at-code}
-use Rattle.rules.proofs.Fair.{FairCell, FairCells, Sound, Going, Fair}
+use Rattle.rules.proofs.Fair.{FairCell, FairCells, FairByte, Sound, Going, Fair}
 
 -- ---- the tests of a sound state, as facts
 
 -- a cell from its test
 pub fair-cell : (count t b : ℕ) → soundCell count t b ≡ true → FairCell count (record { bits = b; tag = t })
 fair-cell count t b h =
+    let two = and-right (leb t CH) _ h in
     record {
-      tag = leb-true t 3 (and-left (leb t 3) (not (eqb t PA) || leb b count) h);
-      pa = λ q. leb-true b count (implies-true (eqb t PA) (leb b count) (and-right (leb t 3) (not (eqb t PA) || leb b count) h) (eq-eqb t PA q));
+      tag = leb-true t CH (and-left (leb t CH) _ h);
+      pa = λ q. leb-true b count (implies-true (eqb t PA) (leb b count) (and-left (not (eqb t PA) || leb b count) _ two) (eq-eqb t PA q));
+      ch = λ q. leb-true b maxCharacter (implies-true (eqb t CH) (leb b maxCharacter) (and-right (not (eqb t PA) || leb b count) _ two) (eq-eqb t CH q));
     }
 
 -- INT, FLOAT and MA hold any bits
 pub fair-plain : (count t b : ℕ) → t ≤ 2 → FairCell count (record { bits = b; tag = t })
-fair-plain count t b h = record { tag = omega arith; pa = λ q. absurd (let z : ⊥ = omega arith in z) }
+fair-plain count t b h =
+    record { tag = omega arith; pa = λ q. absurd (let z : ⊥ = omega arith in z); ch = λ q. absurd (let z : ⊥ = omega arith in z) }
+
+-- a PA at most the length, and a CH at most 127
+pub fair-pa : (count b : ℕ) → b ≤ count → FairCell count (pa b)
+fair-pa count b h = record { tag = lit≤ tt; pa = λ q. h; ch = λ q. absurd (let z : ⊥ = omega (arith, q) in z) }
+
+pub fair-ch : (count b : ℕ) → b ≤ maxCharacter → FairCell count (ch b)
+fair-ch count b h = record { tag = lit≤ tt; pa = λ q. absurd (let z : ⊥ = omega (arith, q) in z); ch = λ q. h }
 
 pub fair-cells : (count : ℕ) (ts bs : List ℕ) → length ts ≡ length bs → soundCells count ts bs ≡ true → FairCells count ts bs
 fair-cells count [] [] e h k = fair-plain count 0 0 zero-le
@@ -79,7 +87,9 @@ sound-facts p r m h =
       used = leb-true _ _ (at 11);
       kept = leb-true _ _ (at 12);
       none = λ q. eqb-true _ _ (implies-true _ _ (at 13) (eq-eqb _ _ q));
-      cells = fair-cells (p .count) (m .cells .tags) (m .cells .bits) (tags ∙ sym bits) (at 14);
+      shown = leb-true _ _ (at 14);
+      written = leb-true _ _ (at 15);
+      cells = fair-cells (p .count) (m .cells .tags) (m .cells .bits) (tags ∙ sym bits) (at 16);
     }
 
 -- ---- a decision that does something passed its demands
@@ -110,83 +120,68 @@ values-does r c n vb vt a e q =
     let reaches = demand-does _ _ _ e (results .1) in
     (record { needs = needs .0; takes = takes .0; results = results .0; reaches = reaches .0 }, does-is (reaches .1))
 
-fitted-does : (r : Registers) (d : Decision) (e : Effect) → fitted r d ≡ Does e → (e .sp < r .n) × (roomFor r e ≡ true) × (d ≡ Does e)
-fitted-does r (Does x) e q =
-    let a = demand-does _ _ _ e q in
-    let b = demand-does _ _ _ e (a .1) in
-    let i : x ≡ e = does-is (b .1) in
-    (subst (λ (y : Effect). y .sp < r .n) i (ltb-true _ _ (a .0)), subst (λ (y : Effect). roomFor r y ≡ true) i (b .0), b .1)
-fitted-does r (Refuses x) e q = refuses-not x e q
+-- what is done with a test asked of it passed it, and is what was decided before
+pub fitting-does : (test : Effect → Bool) (x : MachineRefusal) (d : Decision) (e : Effect) → fitting test x d ≡ Does e → (test e ≡ true) × (d ≡ Does e)
+fitting-does test x (Does f) e q =
+    let a = demand-does (test f) x (Does f) e q in
+    (subst (λ (y : Effect). test y ≡ true) (does-is (a .1)) (a .0), a .1)
+fitting-does test x (Refuses y) e q = refuses-not y e q
 
-pub judged-going : (p : Program) (r : Registers) (m : Memory) (e : Effect) → judged p r (m .cells) ≡ Does e → Going p r m e
+pub judged-going : (p : Program) (r : Registers) (m : Memory) (e : Effect) → judged p r (m .cells) (length (m .output)) ≡ Does e → Going p r m e
 unfolding judged
 judged-going p r m e q =
     let a = demand-does _ _ _ e q in
     let b = demand-does _ _ _ e (a .1) in
-    let c = fitted-does r (decideAt r (m .cells) (getD (p .places) (r .pc) 0)) e (b .1) in
+    let kept = fitting-does _ _ _ e (b .1) in
+    let shown = fitting-does _ _ _ e (kept .1) in
+    let stacked = fitting-does _ _ _ e (shown .1) in
     record {
       running = eqb-true _ _ (a .0);
       inside = eqb-false _ _ (not-true _ (b .0));
-      sp = c .0;
-      room = c .1;
-      decides = c .2;
+      sp = ltb-true _ _ (stacked .0);
+      panel = shown .0;
+      room = kept .0;
+      decides = stacked .1;
     }
 
--- ---- a target is at most the program's length
+-- ---- the operand at a place that can be assembled is within its range
 
-isTarget : Kind → Bool
-isTarget Bare = false
-isTarget Immediate = false
-isTarget Pattern = false
-isTarget Offset = false
-isTarget Target = true
-
-within-target : (k : Kind) (count v : ℕ) → isTarget k ≡ true → within k count v ≡ true → v ≤ count
-unfolding isTarget
-within-target Bare count v q h = absurd (false≢true q)
-within-target Immediate count v q h = absurd (false≢true q)
-within-target Pattern count v q h = absurd (false≢true q)
-within-target Offset count v q h = absurd (false≢true q)
-within-target Target count v q h = leb-true v count h
-
-place-aims : (count place : ℕ) → soundPlace count place ≡ true → isTarget (kindOf (codeOf place)) ≡ true → operandOf place ≤ count
+place-within : (count place : ℕ) → soundPlace count place ≡ true → within (kindOf (codeOf place)) count (operandOf place) ≡ true
 unfolding soundPlace
-place-aims count place h q =
-    within-target (kindOf (codeOf place)) count (operandOf place) q
-    (and-right (ltb (codeOf place) codes) (within (kindOf (codeOf place)) count (operandOf place)) h)
+place-within count place h = and-right (ltb (codeOf place) codes) (within (kindOf (codeOf place)) count (operandOf place)) h
 
 -- ---- the effects, each fair where its new SP is below N
 module _ (p : Program) (r : Registers) (m : Memory) (s : Sound p r m) (going : r .pc < p .count) where
   -- an instruction that goes on to the next: cells within N, FBR below N, and what it writes may be held
   fair-next : (e : Effect) → e .pc ≡ r .pc + 1 → e .halt ≡ 0 → e .at + e .count ≤ r .n → e .fbr < r .n → FairCell (p .count) (e .first)
-      → FairCell (p .count) (e .second) → e .sp < r .n → Fair p r e
-  fair-next e hp hh hf hb h1 h2 hs =
-      record { fits = hf; pc = omega arith; sp = hs; fbr = hb; halt = omega arith; first = h1; second = h2 }
+      → FairCell (p .count) (e .second) → FairByte (e .shows) → e .sp < r .n → Fair p r e
+  fair-next e hp hh hf hb h1 h2 hy hs =
+      record { fits = hf; pc = omega arith; sp = hs; fbr = hb; halt = omega arith; first = h1; second = h2; shows = hy }
 
   zeros : FairCell (p .count) (int 0)
   zeros = fair-plain (p .count) 0 0 zero-le
 
   fair-result : (k : ℕ) (c : Cell) → FairCell (p .count) c → r .sp - k + 1 < r .n → Fair p r (result r k c)
-  fair-result k c h hs = fair-next (result r k c) refl refl (omega arith) (s .fbr) h zeros hs
+  fair-result k c h hs = fair-next (result r k c) refl refl (omega arith) (s .fbr) h zeros tt hs
 
   fair-swapped : (vb vt : Cell) → FairCell (p .count) vb → FairCell (p .count) vt → 2 ≤ r .sp → Fair p r (swapped r vb vt)
   fair-swapped vb vt hb ht h =
-      fair-next (swapped r vb vt) refl refl (omega (arith, s .sp)) (s .fbr) ht hb (s .sp)
+      fair-next (swapped r vb vt) refl refl (omega (arith, s .sp)) (s .fbr) ht hb tt (s .sp)
 
   fair-stored : (k : ℕ) (a : MemoryAddress) (c : Cell) → FairCell (p .count) c → a .0 < r .n → r .sp - k < r .n → Fair p r (stored r k a c)
-  fair-stored k a c h ha hs = fair-next (stored r k a c) refl refl (omega arith) (s .fbr) h zeros hs
+  fair-stored k a c h ha hs = fair-next (stored r k a c) refl refl (omega arith) (s .fbr) h zeros tt hs
 
   fair-moved : (k : ℕ) (a : MemoryAddress) → k ≤ r .sp → a .0 < r .n → Fair p r (moved r k a)
-  fair-moved k a hk hs = fair-next (moved r k a) refl refl (omega (arith, s .sp)) (s .fbr) zeros zeros hs
+  fair-moved k a hk hs = fair-next (moved r k a) refl refl (omega (arith, s .sp)) (s .fbr) zeros zeros tt hs
 
   fair-framed : (a : MemoryAddress) → a .0 < r .n → r .sp - 1 < r .n → Fair p r (framed r a)
-  fair-framed a h hs = fair-next (framed r a) refl refl zero-le h zeros zeros hs
+  fair-framed a h hs = fair-next (framed r a) refl refl zero-le h zeros zeros tt hs
 
   fair-linked : r .sp + 1 < r .n → Fair p r (linked r)
-  fair-linked hs = fair-next (linked r) refl refl (omega arith) (s .sp) (fair-plain (p .count) MA (r .fbr) (lit≤ tt)) zeros hs
+  fair-linked hs = fair-next (linked r) refl refl (omega arith) (s .sp) (fair-plain (p .count) MA (r .fbr) (lit≤ tt)) zeros tt hs
 
   fair-jumped : (k : ℕ) (a : ProgramAddress) → a .0 ≤ p .count → r .sp - k < r .n → Fair p r (jumped r k a)
-  fair-jumped k a h hs = record { fits = zero-le; pc = h; sp = hs; fbr = s .fbr; halt = zero-le; first = zeros; second = zeros }
+  fair-jumped k a h hs = record { fits = zero-le; pc = h; sp = hs; fbr = s .fbr; halt = zero-le; first = zeros; second = zeros; shows = tt }
 
   fair-called : (k : ℕ) (a : ProgramAddress) → a .0 ≤ p .count → r .sp - k + 1 < r .n → Fair p r (called r k a)
   fair-called k a h hs =
@@ -196,13 +191,17 @@ module _ (p : Program) (r : Registers) (m : Memory) (s : Sound p r m) (going : r
         sp = hs;
         fbr = s .fbr;
         halt = zero-le;
-        first = record { tag = lit≤ tt; pa = λ q. omega arith };
+        first = fair-pa (p .count) (following r .0) (omega arith);
         second = zeros;
+        shows = tt;
       }
+
+  fair-shown : (b : ℕ) → b ≤ maxCharacter → r .sp - 1 < r .n → Fair p r (shown r b)
+  fair-shown b h hs = fair-next (shown r b) refl refl zero-le (s .fbr) zeros zeros h hs
 
   fair-halted : Fair p r (halted r)
   fair-halted =
-      record { fits = zero-le; pc = s .pc; sp = s .sp; fbr = s .fbr; halt = lit≤ tt; first = zeros; second = zeros }
+      record { fits = zero-le; pc = s .pc; sp = s .sp; fbr = s .fbr; halt = lit≤ tt; first = zeros; second = zeros; shows = tt }
 
 -- ---- what the demands say of their cells and addresses
 
@@ -226,10 +225,10 @@ module _ (p : Program) (r : Registers) (m : Memory) (s : Sound p r m) (going : r
   abbrev FairBelow : Effect → Type 0
   FairBelow e = e .sp < r .n → Fair p r e
 
-  -- a row's effect is, where it passed what its action asks, and a target is within the program
+  -- a row's effect is, where it passed what its action asks, and its operand is within its range
   abbrev FairRow : Row → Type 0
   FairRow w =
-      (isTarget (w .kind) ≡ true → n ≤ p .count) → Passed r n vb vt (w .action) → FairBelow (w .action .effect r (m .cells) n vb vt)
+      within (w .kind) (p .count) n ≡ true → Passed r n vb vt (w .action) → FairBelow (w .action .effect r (m .cells) n vb vt)
 
   -- effects that are fair whatever was asked: a result of INT, FLOAT or MA, and a copy
   module _ {A B : Type 0} (k : ℕ) where
@@ -272,8 +271,16 @@ module _ (p : Program) (r : Registers) (m : Memory) (s : Sound p r m) (going : r
   returning : has PA vt ≡ true → vt .bits ≤ p .count
   returning h = ht .pa (eqb-true (vt .tag) PA h)
 
+  -- a target
+  aims : leb n (p .count) ≡ true → n ≤ p .count
+  aims h = leb-true n (p .count) h
+
+  -- "which pops a CH"
+  character : has CH vt ≡ true → vt .bits ≤ maxCharacter
+  character h = ht .ch (eqb-true (vt .tag) CH h)
+
   fair-rows : EachRow FairRow rows
-  unfolding rows isTarget
+  unfolding rows
   fair-rows =
       -- STOP, PUSHIMM, PUSHIMMF, DUP, SWAP
       (λ a q l. fair-halted p r m s going) then ofInt 0 then ofFloat 0 then (λ a q. fair-result p r m s going 0 vt ht)
@@ -295,13 +302,17 @@ module _ (p : Program) (r : Registers) (m : Memory) (s : Sound p r m) (going : r
       -- PUSHIND, STOREIND, PUSHOFF, STOREOFF
       then copy 1 _ then (λ a q. stores 2 (signed (vb .bits)) (q .reaches)) then copy 0 _ then (λ a q. stores 1 (frame r n) (q .reaches))
       -- JUMP, JUMPC, JUMPIND, JSR, JSRIND
-      then (λ a q. jumps 0 (programAddress n) (a refl))
-      then (λ a q. jumps 1 _ (either (λ (x : ProgramAddress). x .0 ≤ p .count) (holds (vt .bits)) (a refl) next))
+      then (λ a q. jumps 0 (programAddress n) (aims a))
+      then (λ a q. jumps 1 _ (either (λ (x : ProgramAddress). x .0 ≤ p .count) (holds (vt .bits)) (aims a) next))
       then (λ a q. jumps 1 (programAddress (vt .bits)) (returning (q .takes)))
-      then (λ a q. calls 0 (programAddress n) (a refl))
+      then (λ a q. calls 0 (programAddress n) (aims a))
       then (λ a q. calls 1 (programAddress (vt .bits)) (returning (q .takes)))
       -- PUSHIMMPA, ITOF, FTOI
-      then (λ a q. fair-result p r m s going 0 (pa n) (record { tag = lit≤ tt; pa = λ t. a refl })) then ofFloat 1 then ofInt 1
+      then (λ a q. fair-result p r m s going 0 (pa n) (fair-pa (p .count) n (aims a)))
+      then ofFloat 1 then ofInt 1
+      -- PUSHIMMCH, WRITECH
+      then (λ a q. fair-result p r m s going 0 (ch n) (fair-ch (p .count) n (leb-true n maxCharacter a)))
+      then (λ a q. fair-shown p r m s going (vt .bits) (character (q .takes)))
       then end
 
 -- PC is below the program's length where a step is accepted
@@ -320,10 +331,10 @@ fair-place p r m s going place e h q l =
     let ht = s .cells (r .sp - 1) in
     subst (λ (x : Effect). x .sp < r .n → Fair p r x) (d .1)
     (at-code (FairRow p r m s going (operandOf place) vb vt hb ht) (fair-rows p r m s going (operandOf place) vb vt hb ht) (codeOf place)
-    (place-aims (p .count) place h) (d .0)) l
+    (place-within (p .count) place h) (d .0)) l
 
 -- every instruction's effect is fair
-pub fair-judged : (p : Program) (r : Registers) (m : Memory) (e : Effect) → sound p r m ≡ true → judged p r (m .cells) ≡ Does e → Fair p r e
+pub fair-judged : (p : Program) (r : Registers) (m : Memory) (e : Effect) → sound p r m ≡ true → judged p r (m .cells) (length (m .output)) ≡ Does e → Fair p r e
 fair-judged p r m e h q =
     let s : Sound p r m = sound-facts p r m h in
     let g : Going p r m e = judged-going p r m e q in

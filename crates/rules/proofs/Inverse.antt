@@ -1,22 +1,21 @@
 -- A step-back undoes an accepted step exactly: cells with their tags, history and registers. Assumes nothing.
 use Prim.Native.Nat.{ℕ, zero, suc, _+_, _-_, _^_, _≤_, _<_, zero-le}
 use mathlib.Core.Path.{_≡_, refl, sym, ap, ap₂, _∙_, subst}
-use mathlib.Core.Bool.{Bool, true, false, _&&_, cond}
+use mathlib.Core.Bool.{Bool, true, false, not, _&&_, _||_, cond}
 use mathlib.Core.List.{List, [], _∷_, _++_, append-assoc}
 use native.Mathlib.Omega.{arith}
-use lib.Dec.{lit<}
+use lib.Dec.{lit<, ltb}
 use lib.ListN.{length, getD, take, drop, set, replicate, length-append, length-drop}
 use lib.Seq.{sets, take-at, getD-at, drop-drop, getD-drop}
 use borrow.Author.Tests.{leb-true, eq-eqb, ne-eqb, lt-ltb, le-leb}
 use Rattle.rules.specs.Lists.{part, splice}
 use Rattle.rules.specs.Sizes.{maxCells}
-use Rattle.rules.specs.Tags.{PA}
 use Rattle.rules.specs.Places.{cellPlace, stepPlace, mark, cellAddress, cellTag, cellBits, cellZeros, stepPc, stepSp, stepFbr, stepCount, stepZeros}
 use Rattle.rules.specs.Table.{Program}
-use Rattle.rules.specs.State.{Memory, sound}
-use Rattle.rules.specs.Commit.{block, cellPlaces, cellsKept, recordOf, keeps, grown, historyAfter, registersWith, registersOf, cellsAfter, memoryOf, roomIn, roomFor}
+use Rattle.rules.specs.State.{Memory, soundCell, sound}
+use Rattle.rules.specs.Commit.{block, cellPlaces, cellsKept, recordOf, keeps, grown, historyAfter, registersWith, registersOf, writtenAfter, outputAfter, cellsAfter, memoryOf, roomOn, roomIn, roomFor}
 use Rattle.rules.specs.Step.{judged, unchanged}
-use Rattle.rules.specs.Back.{topPlace, formedCell, formedCells, formedStep, formedTop, restored, undoneAt, undone, plainBack, back}
+use Rattle.rules.specs.Back.{topPlace, formedCell, formedCells, formedStep, formedTop, showsAt, canDrop, restored, undoneAt, undone, plainBack, back}
 use Rattle.rules.specs.declared.Registers.{Registers}
 use Rattle.rules.specs.declared.Effect.{Effect}
 use Rattle.rules.specs.declared.Decision.the-variants.{Does}
@@ -28,17 +27,18 @@ use Rattle.rules.proofs.Splice.{length-part, drop-splice, rest-splice, 
 use Rattle.rules.proofs.Fair.{Sound, Going, Fair, Narrow, Blank}
 use Rattle.rules.proofs.FairEffects.{sound-facts, judged-going, going-below, fair-judged}
 use Rattle.rules.proofs.Table.{table-short}
-use Rattle.rules.proofs.Sound.{pa-sound, Each, each-take, each-drop, length-block, length-kept, length-record, sound-judged}
+use Rattle.rules.proofs.Panel.{isShown, written-back, output-back, blank-output, drops, shows-at}
+use Rattle.rules.proofs.Sound.{cell-sound, output-length, Each, each-take, each-drop, length-block, length-kept, length-record, sound-judged}
 
 -- ---- cells that a place can keep: sound ones of 32 bits
 
 record Keepable (count t b : ℕ) : Type 0 where
-  tag : t < 2 ^ 2
+  tag : t < 2 ^ 3
   bits : b < 2 ^ 32
-  pa : t ≡ PA → b ≤ count
+  sound : soundCell count t b ≡ true
 
 keepable-zero : (count : ℕ) → Keepable count 0 0
-keepable-zero count = record { tag = lit< tt; bits = lit< tt; pa = λ q. zero-le }
+keepable-zero count = record { tag = lit< tt; bits = lit< tt; sound = refl }
 
 keepable : (p : Program) (r : Registers) (m : Memory) → Sound p r m → Narrow m → (i n : ℕ)
     → Each (Keepable (p .count)) (part i n (m .cells .tags)) (part i n (m .cells .bits))
@@ -47,7 +47,12 @@ keepable p r m s w i n =
     each-take (Keepable (p .count)) (keepable-zero (p .count)) n (drop i (m .cells .tags)) (drop i (m .cells .bits))
     (length-drop i (m .cells .tags) ∙ ap (λ (k : ℕ). k - i) even ∙ sym (length-drop i (m .cells .bits)))
     (each-drop (Keepable (p .count)) (keepable-zero (p .count)) i (m .cells .tags) (m .cells .bits)
-    (λ k. record { tag = omega (arith, s .cells k .tag); bits = w k; pa = s .cells k .pa }))
+    (λ k.
+    record {
+      tag = omega (arith, s .cells k .tag);
+      bits = w k;
+      sound = cell-sound (p .count) (record { bits = getD (m .cells .bits) k 0; tag = getD (m .cells .tags) k 0 }) (s .cells k);
+    }))
 
 -- ---- what cell places keep, put back from address a on
 
@@ -70,7 +75,7 @@ picked-bits (t ∷ ts) (b ∷ bs) e = ap (λ (l : List ℕ). b ∷ l) (picked-bi
 
 -- `old` reads from a cell place what `f` picks
 module _ (count : ℕ) (old : ℕ → ℕ) (f : ℕ → ℕ → ℕ)
-    (reads : (a t b : ℕ) → a < 2 ^ 10 → t < 2 ^ 2 → b < 2 ^ 32 → old (cellPlace a t b) ≡ f t b) where
+    (reads : (a t b : ℕ) → a < 2 ^ 10 → t < 2 ^ 3 → b < 2 ^ 32 → old (cellPlace a t b) ≡ f t b) where
   restored-sets : (a : ℕ) (ts bs l : List ℕ) → a + length bs ≤ maxCells → Each (Keepable count) ts bs
       → restored old (cellPlaces a ts bs) l ≡ sets l a (picked f ts bs)
   restored-sets a [] bs l h c = refl
@@ -89,9 +94,9 @@ step-formed n count u q h1 h2 h3 h4 h5 h6 =
     simp (eq-eqb _ _ h1, eq-eqb _ _ h2, lt-ltb _ _ h3, lt-ltb _ _ h4, lt-ltb _ _ h5, lt-ltb _ _ h6)
 
 cell-formed : (n count low q : ℕ) → mark q ≡ 0 → cellZeros q ≡ 0 → low ≤ cellAddress q → cellAddress q < n
-    → (cellTag q ≡ PA → cellBits q ≤ count) → formedCell n count low q ≡ true
+    → soundCell count (cellTag q) (cellBits q) ≡ true → formedCell n count low q ≡ true
 cell-formed n count low q h1 h2 h3 h4 h5 =
-    simp (eq-eqb _ _ h1, eq-eqb _ _ h2, le-leb _ _ h3, lt-ltb _ _ h4, pa-sound _ _ _ h5)
+    simp (eq-eqb _ _ h1, eq-eqb _ _ h2, le-leb _ _ h3, lt-ltb _ _ h4, h5)
 
 cells-formed : (n count low a : ℕ) (ts bs : List ℕ) → low ≤ a → a + length bs ≤ n → n ≤ maxCells → Each (Keepable count) ts bs
     → formedCells n count low (cellPlaces a ts bs) ≡ true
@@ -99,12 +104,12 @@ cells-formed n count low a [] bs hl hn few c = refl
 cells-formed n count low a (t ∷ ts) [] hl hn few c = refl
 cells-formed n count low a (t ∷ ts) (b ∷ bs) hl hn few c =
     let ha : a < 2 ^ 10 = omega arith in
-    let ht : t < 2 ^ 2 = c zero .tag in
+    let ht : t < 2 ^ 3 = c zero .tag in
     let hb : b < 2 ^ 32 = c zero .bits in
     let ea : cellAddress (cellPlace a t b) ≡ a = cellAddress-of a t b ha ht hb in
     ap₂ _&&_
     (cell-formed n count low (cellPlace a t b) (cellMark-of a t b) (cellZeros-of a t b ha ht hb) (omega arith) (omega arith)
-    (λ q. subst (λ (x : ℕ). x ≤ count) (sym (cellBits-of a t b ha ht hb)) (c zero .pa (sym (cellTag-of a t b ha ht hb) ∙ q))))
+    (ap₂ (soundCell count) (cellTag-of a t b ha ht hb) (cellBits-of a t b ha ht hb) ∙ c zero .sound))
     (cells-formed n count (cellAddress (cellPlace a t b) + 1) (suc a) ts bs (omega arith) (omega arith) few (λ k. c (suc k)))
 
 -- ---- what a step-back finds of a record on top: n cell places cs, and the step place q
@@ -135,10 +140,15 @@ registersKept r e = registersWith r e (r .used + (e .count + 1)) (r .kept + 1)
 
 abbrev memoryKept : Registers → Memory → Effect → Memory
 memoryKept r m e =
-    record { cells = cellsAfter (m .cells) e; history = splice (m .history) (r .used) (recordOf r (m .cells) e) }
+    record {
+      cells = cellsAfter (m .cells) e;
+      history = splice (m .history) (r .used) (recordOf r (m .cells) e);
+      output = outputAfter (e .shows) (r .written) (m .output);
+    }
 
 module _ (p : Program) (r : Registers) (m : Memory) (e : Effect) (s : Sound p r m) (w : Narrow m) (below : r .pc < p .count)
-    (fits : e .at + e .count ≤ r .n) (room : r .used + (e .count + 1) ≤ r .h) where
+    (fits : e .at + e .count ≤ r .n) (shown : showsAt p (r .pc) ≡ isShown (e .shows)) (panel : roomOn (length (m .output)) (r .written) (e .shows) ≡ true)
+    (room : r .used + (e .count + 1) ≤ r .h) where
   fits-tags : e .at + e .count ≤ length (m .cells .tags)
   fits-tags = omega (arith, s .tags)
 
@@ -213,7 +223,7 @@ module _ (p : Program) (r : Registers) (m : Memory) (e : Effect) (s : Sound p r 
       (omega (arith, old-bits)) (s .few) old)
 
   -- a list of N cells, written over by ws, has its old numbers again
-  cells-back : (read : ℕ → ℕ) (f : ℕ → ℕ → ℕ) → ((a t b : ℕ) → a < 2 ^ 10 → t < 2 ^ 2 → b < 2 ^ 32 → read (cellPlace a t b) ≡ f t b)
+  cells-back : (read : ℕ → ℕ) (f : ℕ → ℕ → ℕ) → ((a t b : ℕ) → a < 2 ^ 10 → t < 2 ^ 3 → b < 2 ^ 32 → read (cellPlace a t b) ≡ f t b)
       → (l ws : List ℕ) → length l ≡ r .n → length ws ≡ e .count
       → picked f (part (e .at) (e .count) (m .cells .tags)) (part (e .at) (e .count) (m .cells .bits)) ≡ part (e .at) (e .count) l
       → restored read (cellsKept (m .cells) e) (splice l (e .at) ws) ≡ l
@@ -238,30 +248,48 @@ module _ (p : Program) (r : Registers) (m : Memory) (e : Effect) (s : Sound p r 
       (length-block (e .count) (e .first .tag) (e .second .tag))
       (picked-tags (part (e .at) (e .count) (m .cells .tags)) (part (e .at) (e .count) (m .cells .bits)) (old-tags ∙ sym old-bits))
 
-  history-back : Blank r m → splice (memoryKept r m e .history) (r .used) (replicate (e .count + 1) 0) ≡ m .history
+  history-back : drop (r .used) (m .history) ≡ replicate (r .h - r .used) 0 → splice (memoryKept r m e .history) (r .used) (replicate (e .count + 1) 0) ≡ m .history
   history-back blank =
       zeros-top (m .history) (r .used) (e .count) (cellsKept (m .cells) e) made (length-kept m e fits-tags fits-bits) room-history
       (ap (take (e .count + 1)) blank ∙ take-zeros (e .count + 1) (r .h - r .used) (omega arith))
 
-  undone-kept : r .halt ≡ 0 → Blank r m → undone (registersKept r e) (memoryKept r m e) ≡ record { answer = Next r; memory = m }
+  shows-is : showsAt p (stepPc (topPlace (registersKept r e) (memoryKept r m e))) ≡ isShown (e .shows)
+  shows-is = ap (showsAt p) pc-is ∙ shown
+
+  -- a byte that it appended is there to be dropped
+  drops-kept : canDrop p (registersKept r e) (memoryKept r m e) ≡ true
+  drops-kept = ap (λ (b : Bool). not b || ltb 0 (writtenAfter (e .shows) (r .written))) shows-is ∙ drops (e .shows) (r .written)
+
+  undone-kept : r .halt ≡ 0 → Blank r m → undone p (registersKept r e) (memoryKept r m e) ≡ record { answer = Next r; memory = m }
   undone-kept running blank =
-      (λ i. undoneAt (pc-is i) (sp-is i) (fbr-is i) (count-is i) (registersKept r e) (memoryKept r m e))
+      (λ i. undoneAt (pc-is i) (sp-is i) (fbr-is i) (count-is i) (shows-is i) (registersKept r e) (memoryKept r m e))
       ∙ (λ i. record {
         answer =
             Next
-            (record { n = r .n; h = r .h; pc = r .pc; sp = r .sp; fbr = r .fbr; halt = sym running i; used = from-is i; kept = one-less i });
+            (record {
+              n = r .n;
+              h = r .h;
+              pc = r .pc;
+              sp = r .sp;
+              fbr = r .fbr;
+              halt = sym running i;
+              used = from-is i;
+              kept = one-less i;
+              written = written-back (m .output) (r .written) (e .shows) i;
+            });
         memory = record {
           cells = record {
             bits = (ap (λ (l : List ℕ). restored cellBits l (memoryKept r m e .cells .bits)) cells-are ∙ bits-back) i;
             tags = (ap (λ (l : List ℕ). restored cellTag l (memoryKept r m e .cells .tags)) cells-are ∙ tags-back) i;
           };
-          history = (ap (λ (k : ℕ). splice (memoryKept r m e .history) k (replicate (e .count + 1) 0)) from-is ∙ history-back blank) i;
+          history = (ap (λ (k : ℕ). splice (memoryKept r m e .history) k (replicate (e .count + 1) 0)) from-is ∙ history-back (blank .history)) i;
+          output = output-back (m .output) (r .written) (e .shows) panel (blank .output) i;
         };
       })
 
   back-kept : r .halt ≡ 0 → Blank r m → plainBack p (registersKept r e) (memoryKept r m e) ≡ record { answer = Next r; memory = m }
   unfolding plainBack
-  back-kept running blank = rw (ne-eqb (r .used + (e .count + 1)) 0 (λ z. omega (arith, z)), formed-kept) (undone-kept running blank)
+  back-kept running blank = rw (ne-eqb (r .used + (e .count + 1)) 0 (λ z. omega (arith, z)), formed-kept, drops-kept) (undone-kept running blank)
 
 -- ---- with a history, a record is kept
 module _ (r : Registers) (e : Effect) (some : 0 < r .h) where
@@ -280,7 +308,7 @@ module _ (r : Registers) (e : Effect) (some : 0 < r .h) where
 
 -- a step-back undoes an accepted step exactly
 pub inverse : (p : Program) (r : Registers) (m : Memory) (e : Effect) → sound p r m ≡ true → Narrow m → Blank r m → 0 < r .h
-    → judged p r (m .cells) ≡ Does e → back p (registersOf r e) (memoryOf r m e) ≡ record { answer = Next r; memory = m }
+    → judged p r (m .cells) (length (m .output)) ≡ Does e → back p (registersOf r e) (memoryOf r m e) ≡ record { answer = Next r; memory = m }
 unfolding back
 inverse p r m e h w blank some q =
     let s : Sound p r m = sound-facts p r m h in
@@ -288,9 +316,9 @@ inverse p r m e h w blank some q =
     let f : Fair p r e = fair-judged p r m e h q in
     ap (λ (b : Bool). cond b (plainBack p (registersOf r e) (memoryOf r m e)) (unchanged (memoryOf r m e) Broken)) (sound-judged p r m e h q)
     ∙ ap₂ (plainBack p) (registers-kept r e some) (memory-kept r e some m)
-    ∙ back-kept p r m e s w (going-below p r m e s g) (f .fits) (room-kept r e some (s .used) (g .room)) (g .running) blank
+    ∙ back-kept p r m e s w (going-below p r m e s g) (f .fits) (shows-at p r m e s g) (g .panel) (room-kept r e some (s .used) (g .room)) (g .running) blank
 
--- ---- the unused places are zero again
+-- ---- what is not used is zero again
 module _ (u n h : ℕ) (l added : List ℕ) (low : u ≤ h) (ll : length l ≡ h) (la : length added ≡ n) (blank : drop u l ≡ replicate (h - u) 0) where
   blank-after : (b : Bool) → roomIn b (h - u) n ≡ true → drop (grown b u n) (historyAfter b l u added) ≡ replicate (h - grown b u n) 0
   blank-after true q =
@@ -300,10 +328,18 @@ module _ (u n h : ℕ) (l added : List ℕ) (low : u ≤ h) (ll : length l ≡ h
       ∙ ap (λ (k : ℕ). replicate k 0) left
   blank-after false q = blank
 
-pub blank-judged : (p : Program) (r : Registers) (m : Memory) (e : Effect) → sound p r m ≡ true → Blank r m → judged p r (m .cells) ≡ Does e
+pub blank-judged : (p : Program) (r : Registers) (m : Memory) (e : Effect) → sound p r m ≡ true → Blank r m → judged p r (m .cells) (length (m .output)) ≡ Does e
     → Blank (registersOf r e) (memoryOf r m e)
 blank-judged p r m e h blank q =
     let s : Sound p r m = sound-facts p r m h in
     let f : Fair p r e = fair-judged p r m e h q in
-    blank-after (r .used) (e .count + 1) (r .h) (m .history) (recordOf r (m .cells) e) (s .used) (s .history)
-    (length-record m e (omega (arith, f .fits, s .tags)) (omega (arith, f .fits, s .bits)) r) blank (keeps r) (judged-going p r m e q .room)
+    let g : Going p r m e = judged-going p r m e q in
+    let same = output-length (m .output) (r .written) (e .shows) in
+    record {
+      history =
+          blank-after (r .used) (e .count + 1) (r .h) (m .history) (recordOf r (m .cells) e) (s .used) (s .history)
+          (length-record m e (omega (arith, f .fits, s .tags)) (omega (arith, f .fits, s .bits)) r) (blank .history) (keeps r) (g .room);
+      output =
+          blank-output (m .output) (r .written) (e .shows) (g .panel) (blank .output)
+          ∙ ap (λ (n : ℕ). replicate (n - writtenAfter (e .shows) (r .written)) 0) (sym same);
+    }

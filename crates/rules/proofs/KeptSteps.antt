@@ -53,7 +53,7 @@ module _ (u n h : ℕ) (l added : List ℕ) (low : u ≤ h) (ll : length l ≡ h
       ap stepPlaces (through-splice l u added (omega arith) n la) ∙ steps-append (take u l) added
   steps-after false q = refl
 
-pub steps-judged : (p : Program) (r : Registers) (m : Memory) (e : Effect) → sound p r m ≡ true → judged p r (m .cells) ≡ Does e
+pub steps-judged : (p : Program) (r : Registers) (m : Memory) (e : Effect) → sound p r m ≡ true → judged p r (m .cells) (length (m .output)) ≡ Does e
     → stepsInUse (registersOf r e) (memoryOf r m e) ≡ grown (keeps r) (stepsInUse r m) 1
 steps-judged p r m e h q =
     let s : Sound p r m = sound-facts p r m h in

@@ -10,14 +10,14 @@ use lib.ListN.{length, take, getD, replicate, length-append}
 use lib.Seq.{take-suc}
 use borrow.Author.Tests.{leb-true, ltb-true, eq-eqb, ne-eqb}
 use Rattle.rules.specs.Lists.{text, all}
-use Rattle.rules.specs.Sizes.{maxProgram, listingSize, maxOffset}
+use Rattle.rules.specs.Sizes.{maxProgram, listingSize, maxOffset, maxCharacter}
 use Rattle.rules.specs.Bytes.{hash, minusSign, LF, blank, letter, wordByte, allowed}
 use Rattle.rules.specs.Instructions.{rows, rowOf, codes, names, nameOf, kindOf}
 use Rattle.rules.specs.Table.{Program, codeOf, operandOf, within, soundPlace, soundTable}
 use Rattle.rules.specs.Assemble.{allowedRun}
 use Rattle.rules.specs.Listing.{decimal, signedText, hexByte, hex, operandText, spaced, lineOf, listing, told, list}
 use Rattle.rules.specs.declared.Kind.{Kind}
-use Rattle.rules.specs.declared.Kind.the-variants.{Bare, Immediate, Pattern, Offset, Target}
+use Rattle.rules.specs.declared.Kind.the-variants.{Bare, Immediate, Pattern, Offset, Target, Character}
 use Rattle.rules.specs.declared.Listed.the-variants.{Failed}
 use Rattle.rules.specs.declared.TextRefusal.the-variants.{BrokenTable, WrongLength}
 use Rattle.rules.proofs.Table.{table-short, place-sound, used-sound, used-count}
@@ -95,6 +95,7 @@ widest Immediate = 12
 widest Pattern = 10
 widest Offset = 5
 widest Target = 5
+widest Character = 4
 
 lineRight : ℕ → Bool
 lineRight c = leb (length (nameOf c) + widest (kindOf c) + 1) 20
@@ -124,6 +125,7 @@ length-operand Immediate n v h l f = omega (arith, length-spaced (signedText v),
 length-operand Pattern n v h l f = omega (arith, length-hex 8 v)
 length-operand Offset n v h l f = omega (arith, length-spaced (signedText v), offset-short v l f)
 length-operand Target n v h l f = omega (arith, length-spaced (decimal 9 v), length-digits 3 9 v (omega (arith, leb-true v n f)))
+length-operand Character n v h l f = omega (arith, length-spaced (decimal 9 v), length-digits 2 9 v (omega (arith, leb-true v maxCharacter f)))
 
 module _ (n p : ℕ) (h : n ≤ maxProgram) (f : soundPlace n p ≡ true) where
   pub sound-code : codeOf p < codes

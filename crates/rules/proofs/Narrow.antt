@@ -176,6 +176,8 @@ module _ (r : Registers) (m : Memory) (sp : r .sp < 2 ^ 32) (fbr : r .fbr < 2 ^ 
       then one (cells _) then one ht then one (cells _) then one ht
       -- JUMP, JUMPC, JUMPIND, JSR, JSRIND, PUSHIMMPA, ITOF, FTOI
       then none then none then none then one pc then one pc then one hn then word1 intToF-lt then one (word-lt (cut (vt .bits)))
+      -- PUSHIMMCH, WRITECH
+      then one hn then none
       then end
 
 -- the instruction at a place
@@ -192,7 +194,7 @@ slim-place r m sp fbr pc cells place e q =
 
 -- ---- what an accepted step writes
 
-module _ (p : Program) (r : Registers) (m : Memory) (e : Effect) (cells : Narrow m) (h : sound p r m ≡ true) (q : judged p r (m .cells) ≡ Does e) where
+module _ (p : Program) (r : Registers) (m : Memory) (e : Effect) (cells : Narrow m) (h : sound p r m ≡ true) (q : judged p r (m .cells) (length (m .output)) ≡ Does e) where
   pub narrow-judged : (e .first .bits < 2 ^ 32) × (e .second .bits < 2 ^ 32)
   narrow-judged =
       let s : Sound p r m = sound-facts p r m h in

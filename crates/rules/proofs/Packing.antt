@@ -15,7 +15,7 @@ use Rattle.rules.specs.Instructions.{kindOf}
 use Rattle.rules.specs.Table.{Program, program, codeOf, operandOf, soundTable}
 use Rattle.rules.specs.Image.{countWidth, codeWidth, widthOf, instructionBits, programBits, imageBits, imageLength, packedTo, Filed, pack}
 use Rattle.rules.specs.declared.Kind.{Kind}
-use Rattle.rules.specs.declared.Kind.the-variants.{Bare, Immediate, Pattern, Offset, Target}
+use Rattle.rules.specs.declared.Kind.the-variants.{Bare, Immediate, Pattern, Offset, Target, Character}
 use Rattle.rules.specs.declared.ImageRefusal.the-variants.{TableBroken, OutputLength}
 use Rattle.rules.specs.declared.Packed.the-variants.{Length, Denied}
 use Rattle.rules.proofs.Fields.{field-length}
@@ -31,6 +31,7 @@ width-most Immediate = omega arith
 width-most Pattern = omega arith
 width-most Offset = omega arith
 width-most Target = omega arith
+width-most Character = omega arith
 
 pub instruction-length : (p : ℕ) → length (instructionBits p) ≡ codeWidth + widthOf (kindOf (codeOf p))
 unfolding instructionBits

@@ -40,7 +40,7 @@ pub cellAddress-is : (p : ℕ) → cellAddress p ≡ p / 2 ^ 53 % 2 ^ 10
 unfolding cellAddress
 cellAddress-is p = field-is cellLayout 1 p refl
 
-pub cellZeros-is : (p : ℕ) → cellZeros p ≡ p / 2 ^ 0 % 2 ^ 19
+pub cellZeros-is : (p : ℕ) → cellZeros p ≡ p / 2 ^ 0 % 2 ^ 18
 unfolding cellZeros
 cellZeros-is p = field-is cellLayout 4 p refl
 
@@ -50,7 +50,7 @@ stepZeros-is p = field-is stepLayout 5 p refl
 
 -- ---- the two places: of a number that does not fit, its low bits
 
-pub cellPlace-low : (a t b : ℕ) → cellPlace a t b ≡ a % 2 ^ 10 * 2 ^ 53 + t % 2 ^ 2 * 2 ^ 51 + b % 2 ^ 32 * 2 ^ 19
+pub cellPlace-low : (a t b : ℕ) → cellPlace a t b ≡ a % 2 ^ 10 * 2 ^ 53 + t % 2 ^ 3 * 2 ^ 50 + b % 2 ^ 32 * 2 ^ 18
 unfolding cellPlace
 cellPlace-low a t b = side-value cellLayout (0 ∷ a ∷ t ∷ b ∷ []) ∙ omega arith
 
@@ -68,7 +68,7 @@ pub stepMark-of : (pc sp fbr k : ℕ) → mark (stepPlace pc sp fbr k) ≡ 1
 unfolding mark stepPlace
 stepMark-of pc sp fbr k = read-back stepLayout (1 ∷ pc ∷ sp ∷ fbr ∷ k ∷ []) 0 refl
 
-module _ (a t b : ℕ) (ha : a < 2 ^ 10) (ht : t < 2 ^ 2) (hb : b < 2 ^ 32) where
+module _ (a t b : ℕ) (ha : a < 2 ^ 10) (ht : t < 2 ^ 3) (hb : b < 2 ^ 32) where
   pub cellAddress-of : cellAddress (cellPlace a t b) ≡ a
   unfolding cellAddress cellPlace
   cellAddress-of = reads cellLayout (0 ∷ a ∷ t ∷ b ∷ []) 1 refl ha

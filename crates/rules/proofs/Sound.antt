@@ -5,19 +5,22 @@ use mathlib.Core.Bool.{Bool, true, false, not, _&&_, _||_}
 use mathlib.Core.List.{List, [], _∷_, _++_}
 use native.Mathlib.Omega.{arith}
 use lib.Dec.{leb, eqb}
-use lib.ListN.{length, getD, take, drop, replicate, length-append, length-take, length-replicate}
+use lib.ListN.{length, getD, take, drop, replicate, length-set, length-append, length-take, length-replicate}
 use lib.Seq.{getD-drop}
-use borrow.Author.Tests.{leb-true, eqb-true, lt-ltb, le-leb, eq-eqb}
+use borrow.Author.Tests.{leb-true, ltb-true, eqb-true, lt-ltb, le-leb, eq-eqb}
 use Rattle.rules.specs.Lists.{part, splice}
-use Rattle.rules.specs.Tags.{PA}
+use Rattle.rules.specs.Sizes.{maxCharacter}
+use Rattle.rules.specs.Tags.{PA, CH}
 use Rattle.rules.specs.Places.{stepPlace}
 use Rattle.rules.specs.Table.{Program}
 use Rattle.rules.specs.State.{Memory, soundCell, soundCells, sound}
 use Rattle.rules.specs.Decide.{demand}
-use Rattle.rules.specs.Commit.{block, cellPlaces, cellsKept, recordOf, keeps, grown, historyAfter, registersOf, memoryOf, roomIn, roomFor}
+use Rattle.rules.specs.Commit.{block, cellPlaces, cellsKept, recordOf, keeps, grown, historyAfter, writtenAfter, outputAfter, registersOf, memoryOf, roomOn, roomIn, roomFor}
 use Rattle.rules.specs.Step.{judged, carried, plainStep, step}
 use Rattle.rules.specs.declared.Cell.{Cell}
 use Rattle.rules.specs.declared.Registers.{Registers}
+use Rattle.rules.specs.declared.Shown.{Shown}
+use Rattle.rules.specs.declared.Shown.the-variants.{Nothing, Byte}
 use Rattle.rules.specs.declared.Effect.{Effect}
 use Rattle.rules.specs.declared.Decision.{Decision}
 use Rattle.rules.specs.declared.Decision.the-variants.{Does, Refuses}
@@ -92,12 +95,14 @@ module _ (m : Memory) (e : Effect) (ht : e .at + e .count ≤ length (m .cells .
 
 -- ---- the tests of a sound state, from the facts
 
--- not "a PA cell above length"
-pub pa-sound : (t b count : ℕ) → (t ≡ PA → b ≤ count) → (not (eqb t PA) || leb b count) ≡ true
-pa-sound t b count h = to-implies (eqb t PA) (leb b count) (λ q. le-leb b count (h (eqb-true t PA q)))
+-- where the tag is that one, the bits are at most the limit
+tagged-sound : (tag t b limit : ℕ) → (t ≡ tag → b ≤ limit) → (not (eqb t tag) || leb b limit) ≡ true
+tagged-sound tag t b limit h = to-implies (eqb t tag) (leb b limit) (λ q. le-leb b limit (h (eqb-true t tag q)))
 
 pub cell-sound : (count : ℕ) (c : Cell) → FairCell count c → soundCell count (c .tag) (c .bits) ≡ true
-cell-sound count c f = ap₂ _&&_ (le-leb (c .tag) 3 (f .tag)) (pa-sound (c .tag) (c .bits) count (f .pa))
+cell-sound count c f =
+    ap₂ _&&_ (le-leb (c .tag) CH (f .tag))
+    (ap₂ _&&_ (tagged-sound PA (c .tag) (c .bits) count (f .pa)) (tagged-sound CH (c .tag) (c .bits) maxCharacter (f .ch)))
 
 pub cells-sound : (count : ℕ) (ts bs : List ℕ) → FairCells count ts bs → soundCells count ts bs ≡ true
 cells-sound count [] bs f = refl
@@ -122,6 +127,8 @@ facts-sound p r m s =
       le-leb _ _ (s .used),
       le-leb _ _ (s .kept),
       to-implies (eqb (r .kept) 0) (eqb (r .used) 0) (λ q. eq-eqb _ _ (s .none (eqb-true _ _ q))),
+      le-leb _ _ (s .shown),
+      le-leb _ _ (s .written),
       cells-sound (p .count) (m .cells .tags) (m .cells .bits) (s .cells),
     )
 
@@ -148,11 +155,21 @@ module _ (k u n : ℕ) (some : 1 ≤ n) where
   none-after true h q = absurd (let z : ⊥ = omega (arith, q) in z)
   none-after false h q = h q
 
+-- ---- the output after, with a byte or without
+module _ (o : List ℕ) (w : ℕ) where
+  pub output-length : (x : Shown) → length (outputAfter x w o) ≡ length o
+  output-length Nothing = refl
+  output-length (Byte b) = length-set o w b
+
+  written-after : (x : Shown) → w ≤ length o → roomOn (length o) w x ≡ true → writtenAfter x w ≤ length o
+  written-after Nothing h q = h
+  written-after (Byte b) h q = omega (arith, ltb-true w (length o) q)
+
 -- ---- a fair effect leaves a sound state sound
 
-pub sound-commit : (p : Program) (r : Registers) (m : Memory) (e : Effect) → Sound p r m → Fair p r e → roomFor r e ≡ true
-    → Sound p (registersOf r e) (memoryOf r m e)
-sound-commit p r m e s f room =
+pub sound-commit : (p : Program) (r : Registers) (m : Memory) (e : Effect) → Sound p r m → Fair p r e → roomOn (length (m .output)) (r .written) (e .shows) ≡ true
+    → roomFor r e ≡ true → Sound p (registersOf r e) (memoryOf r m e)
+sound-commit p r m e s f panel room =
     let lb : length (block (e .count) (e .first .bits) (e .second .bits)) ≡ e .count = length-block (e .count) (e .first .bits) (e .second .bits) in
     let lt : length (block (e .count) (e .first .tag) (e .second .tag)) ≡ e .count = length-block (e .count) (e .first .tag) (e .second .tag) in
     record {
@@ -172,6 +189,11 @@ sound-commit p r m e s f room =
       used = used-after (r .used) (e .count + 1) (r .h) (s .used) (keeps r) room;
       kept = kept-after (r .kept) (r .used) (e .count + 1) (omega arith) (keeps r) (s .kept);
       none = none-after (r .kept) (r .used) (e .count + 1) (omega arith) (keeps r) (s .none);
+      shown = let same = output-length (m .output) (r .written) (e .shows) in omega (arith, same, s .shown);
+      written =
+          let same = output-length (m .output) (r .written) (e .shows) in
+          let low = written-after (m .output) (r .written) (e .shows) (s .written) panel in
+          omega (arith, same, low);
       cells =
           each-splice (λ t b. FairCell (p .count) (record { bits = b; tag = t })) (fair-plain (p .count) 0 0 zero-le)
           (e .at) (e .count) (m .cells .tags) (m .cells .bits) (block (e .count) (e .first .tag) (e .second .tag)) (block (e .count) (e .first .bits) (e .second .bits))
@@ -180,20 +202,20 @@ sound-commit p r m e s f room =
           (e .count) (e .first .tag) (e .first .bits) (e .second .tag) (e .second .bits) (f .first) (f .second));
     }
 
-pub sound-judged : (p : Program) (r : Registers) (m : Memory) (e : Effect) → sound p r m ≡ true → judged p r (m .cells) ≡ Does e
+pub sound-judged : (p : Program) (r : Registers) (m : Memory) (e : Effect) → sound p r m ≡ true → judged p r (m .cells) (length (m .output)) ≡ Does e
     → sound p (registersOf r e) (memoryOf r m e) ≡ true
 sound-judged p r m e h q =
     facts-sound p (registersOf r e) (memoryOf r m e)
-    (sound-commit p r m e (sound-facts p r m h) (fair-judged p r m e h q) (judged-going p r m e q .room))
+    (let g = judged-going p r m e q in sound-commit p r m e (sound-facts p r m h) (fair-judged p r m e h q) (g .panel) (g .room))
 
 -- ---- a step of a sound state is a plain step
 
 pub step-plain : (p : Program) (r : Registers) (m : Memory) → sound p r m ≡ true → step p r m ≡ plainStep p r m
 unfolding step plainStep
-step-plain p r m h = ap (λ (b : Bool). carried r m (demand b Broken (judged p r (m .cells)))) h
+step-plain p r m h = ap (λ (b : Bool). carried r m (demand b Broken (judged p r (m .cells) (length (m .output))))) h
 
 -- the state that an accepted step leaves is sound
-carried-sound : (p : Program) (r r′ : Registers) (m : Memory) (d : Decision) → sound p r m ≡ true → judged p r (m .cells) ≡ d
+carried-sound : (p : Program) (r r′ : Registers) (m : Memory) (d : Decision) → sound p r m ≡ true → judged p r (m .cells) (length (m .output)) ≡ d
     → carried r m d .answer ≡ Next r′ → sound p r′ (carried r m d .memory) ≡ true
 carried-sound p r r′ m (Does e) h q a =
     let same : registersOf r e ≡ r′ = cc in
@@ -203,4 +225,4 @@ carried-sound p r r′ m (Refuses x) h q a = let z : _≡_ {A = ℕ} 0 1 = cc in
 pub sound-step : (p : Program) (r r′ : Registers) (m : Memory) → sound p r m ≡ true → plainStep p r m .answer ≡ Next r′
     → sound p r′ (plainStep p r m .memory) ≡ true
 unfolding plainStep
-sound-step p r r′ m h a = carried-sound p r r′ m (judged p r (m .cells)) h refl a
+sound-step p r r′ m h a = carried-sound p r r′ m (judged p r (m .cells) (length (m .output))) h refl a

@@ -5,13 +5,14 @@ use mathlib.Core.Path.{_≡_, refl, ap, sym, _∙_}
 use mathlib.Core.Bool.{Bool, true, _&&_}
 use mathlib.Core.List.{List, [], _∷_, _++_}
 use native.Mathlib.Omega.{arith}
-use lib.Dec.{leb, eqb}
+use lib.Dec.{leb, ltb, eqb}
 use lib.ListN.{length, getD, take, drop, replicate, length-drop, take-append-drop}
 use lib.Seq.{getD-take, length-take-le}
-use borrow.Author.Tests.{leb-true, eqb-true}
+use borrow.Author.Tests.{leb-true, ltb-true, eqb-true}
 use Rattle.rules.specs.Lists.{all}
 use Rattle.rules.specs.Sizes.{maxProgram}
-use Rattle.rules.specs.Table.{Program, soundPlace, isZero, soundTable}
+use Rattle.rules.specs.Instructions.{codes, kindOf}
+use Rattle.rules.specs.Table.{Program, codeOf, operandOf, within, soundPlace, isZero, soundTable}
 use Rattle.rules.proofs.Tests.{and-left, and-right, all-at}
 
 zeros : (l : List ℕ) → all isZero l ≡ true → l ≡ replicate (length l) 0
@@ -62,6 +63,13 @@ module _ (p : Program) (h : soundTable p ≡ true) where
   place-sound k kc =
       ap (soundPlace (p .count)) (sym (getD-take (p .count) (p .places) k 0 kc))
       ∙ all-at (soundPlace (p .count)) used k used-sound (omega (arith, used-count))
+
+  -- and holds an instruction
+  pub place-coded : (k : ℕ) → k < p .count → codeOf (getD (p .places) k 0) < codes
+  unfolding soundPlace
+  place-coded k kc =
+      let q = getD (p .places) k 0 in
+      ltb-true (codeOf q) codes (and-left (ltb (codeOf q) codes) (within (kindOf (codeOf q)) (p .count) (operandOf q)) (place-sound k kc))
 
   -- ---- the others
 

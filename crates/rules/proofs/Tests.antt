@@ -1,7 +1,7 @@
 -- The laws of tests: two together, over lists (`all`, `every` and `same`, for the loops and the early returns that make them), and over the
 -- numbers below a bound. Assumes nothing.
 use Prim.Native.Nat.{ℕ, zero, suc, _+_, _≤_, _<_}
-use mathlib.Core.Path.{_≡_, refl, ap, _∙_}
+use mathlib.Core.Path.{_≡_, refl, sym, ap, _∙_}
 use mathlib.Core.Bool.{Bool, true, false, cond, not, _&&_, _||_, false≢true, true≢false, and-false}
 use mathlib.Core.List.{List, [], _∷_}
 use native.Mathlib.Nat.{not-suc-le-zero, le-of-suc-le-suc}
@@ -54,6 +54,16 @@ implies-true false b h q = absurd (false≢true q)
 pub to-implies : (a b : Bool) → (a ≡ true → b ≡ true) → (not a || b) ≡ true
 to-implies true b h = h refl
 to-implies false b h = refl
+
+-- both hold, or neither does
+abbrev pub alike : Bool → Bool → Bool
+alike true b = b
+alike false b = not b
+
+pub alike-equal : (a b : Bool) → alike a b ≡ true → a ≡ b
+alike-equal true b h = sym h
+alike-equal false true h = absurd (false≢true h)
+alike-equal false false h = refl
 
 -- ---- every test of a list
 

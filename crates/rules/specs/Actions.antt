@@ -1,14 +1,14 @@
--- Document 01, "Instructions", and document 02, letters b, d and e: what each instruction asks and does, as an action for `Decide`: those that take the same
+-- Document 01, "Instructions", and document 02, letters b, d, e and h: what each instruction asks and does, as an action for `Decide`: those that take the same
 -- values, and refuse the same, are one action, so that ADD and SUB differ in their sum alone. n is the operand. Assumes nothing.
 use Prim.Native.Nat.{ℕ, suc, _-_}
 use mathlib.Core.Bool.{Bool, true, false, not, _&&_, _||_, cond}
 use lib.Dec.{ltb, eqb}
 use lib.IntN.{ℤ, pos, negsuc, _+ℤ_}
-use Rattle.rules.specs.Tags.{INT, FLOAT, MA, PA, int, float, ma, has}
+use Rattle.rules.specs.Tags.{INT, FLOAT, MA, PA, CH, int, float, ma, has}
 use Rattle.rules.specs.Words.{signed, word, inWord, bit, holds}
 use Rattle.rules.specs.Floats.{unordered, orderedF, equalF, intToF, cut, hasInt}
 use Rattle.rules.specs.Cells.{Cells, cellAt}
-use Rattle.rules.specs.Effects.{memoryAddress, programAddress, following, result, swapped, stored, moved, framed, linked, jumped, called, halted}
+use Rattle.rules.specs.Effects.{memoryAddress, programAddress, following, result, swapped, stored, moved, framed, linked, jumped, called, shown, halted}
 use Rattle.rules.specs.Decide.{Action}
 use Rattle.rules.specs.declared.Cell.{Cell}
 use Rattle.rules.specs.declared.Registers.{Registers}
@@ -201,3 +201,7 @@ jsr = acts 0 any (λ r c n vb vt. called r 0 (programAddress n))
 
 abbrev pub jsrInd : Action
 jsrInd = acts 1 (topIs PA) (λ r c n vb vt. called r 1 (programAddress (vt .bits)))
+
+-- "WRITECH (code 53), which pops a CH and appends it" (02 h)
+abbrev pub writeCh : Action
+writeCh = acts 1 (topIs CH) (λ r c n vb vt. shown r (vt .bits))

@@ -99,7 +99,7 @@ conversions =
     ∷ refused 16 2 "PUSHIMMF #7FC00000 FTOI" 1 5
     ∷ refused 16 2 "PUSHIMMF 2.5 FTOI" 1 8
     -- each writes one cell, whose number and tag come back
-    ∷ records 16 4 "PUSHIMM 40 ITOF" (0x0000000001400000 ∷ 0x8010040000400000 ∷ [])
+    ∷ records 16 4 "PUSHIMM 40 ITOF" (0x0000000000A00000 ∷ 0x8010040000400000 ∷ [])
     ∷ restores 16 4 "PUSHIMM 40 ITOF" 0 (int 40)
     ∷ restores 16 4 "PUSHIMMF 2.5 FTOI" 0 (float 0x40200000)
     -- codes 50 and 51 have no operand

@@ -12,7 +12,7 @@ use Rattle.rules.specs.Exact as Exact
 use Rattle.rules.specs.Floats as Floats
 use Rattle.rules.specs.Dwell as Dwell
 use Rattle.rules.specs.Sizes.{maxProgram, maxLimit}
-use Rattle.rules.specs.Tags.{INT, FLOAT, PA, int, float, ma, pa}
+use Rattle.rules.specs.Tags.{INT, FLOAT, PA, int, float, ma, pa, ch}
 use Rattle.rules.specs.Words.{word}
 use Rattle.rules.specs.Table.{program}
 use Rattle.rules.specs.State.{Memory, memory}
@@ -38,14 +38,14 @@ afterRun s number tenths =
 abbrev machine : (sp halt : ℕ) → Memory → (number tenths : ℕ) → DwellRead
 machine sp halt m number tenths =
     record {
-      read = Dwell.dwell (program (replicate maxProgram 0) 0) (record { n = 2; h = 0; pc = 0; sp = sp; fbr = 0; halt = halt; used = 0; kept = 0 }) m;
+      read = Dwell.dwell (program (replicate maxProgram 0) 0) (record { n = 2; h = 0; pc = 0; sp = sp; fbr = 0; halt = halt; used = 0; kept = 0; written = 0 }) m;
       number = number;
       tenths = tenths;
     }
 
 -- cell 0 of a halted machine is read as so many tenths, or refused by that number
 abbrev cell : Cell → (number tenths : ℕ) → DwellRead
-cell c = machine 1 1 (memory (c .bits ∷ 0 ∷ []) (c .tag ∷ INT ∷ []) [])
+cell c = machine 1 1 (memory (c .bits ∷ 0 ∷ []) (c .tag ∷ INT ∷ []) [] [])
 
 abbrev tenths : ℤ → ℕ → DwellRead
 tenths z t = cell (int (word z)) 0 t
@@ -106,6 +106,7 @@ dwells =
     -- "62 tag neither INT nor FLOAT"
     ∷ cell (ma 40) 62 0
     ∷ cell (pa 0) 62 0
+    ∷ cell (ch 40) 62 0
     -- "61 SP is 0", whatever cell 0 was left with; before 62 and 63
     ∷ afterRun "STOP" 61 0
     ∷ afterRun "PUSHIMM 40 ADDSP -1 STOP" 61 0
@@ -117,11 +118,11 @@ dwells =
     ∷ afterRun "" 60 0
     ∷ afterRun "PUSHSP" 60 0
     ∷ afterRun "PUSHIMMF #7FC00000" 60 0
-    -- "10 as for step", before them all: HALT 2, SP at N, and in a cell that is not read a tag above 3 and a PA above the length
-    ∷ machine 0 2 (memory (40 ∷ 0 ∷ []) (INT ∷ INT ∷ []) []) 10 0
-    ∷ machine 2 1 (memory (40 ∷ 0 ∷ []) (INT ∷ INT ∷ []) []) 10 0
-    ∷ machine 0 0 (memory (40 ∷ 0 ∷ []) (INT ∷ 4 ∷ []) []) 10 0
-    ∷ machine 1 1 (memory (0x7FC00000 ∷ 1 ∷ []) (FLOAT ∷ PA ∷ []) []) 10 0
+    -- "10 as for step", before them all: HALT 2, SP at N, and in a cell that is not read a tag above 4 and a PA above the length
+    ∷ machine 0 2 (memory (40 ∷ 0 ∷ []) (INT ∷ INT ∷ []) [] []) 10 0
+    ∷ machine 2 1 (memory (40 ∷ 0 ∷ []) (INT ∷ INT ∷ []) [] []) 10 0
+    ∷ machine 0 0 (memory (40 ∷ 0 ∷ []) (INT ∷ 5 ∷ []) [] []) 10 0
+    ∷ machine 1 1 (memory (0x7FC00000 ∷ 1 ∷ []) (FLOAT ∷ PA ∷ []) [] []) 10 0
     ∷ []
 
 abbrev pub reads : DwellRead → Bool

@@ -1,4 +1,4 @@
--- Document 01, "Instructions" and "Cells written": what an accepted step does, as an `Effect`. Assumes nothing.
+-- Document 01, "Instructions" and "Cells written", and document 02, letter h: what an accepted step does, as an `Effect`. Assumes nothing.
 use Prim.Native.Nat.{ℕ, _+_, _-_}
 use lib.IntN.{ℤ, pos, negsuc}
 use Rattle.rules.specs.Tags.{int, ma, pa}
@@ -6,6 +6,8 @@ use Rattle.rules.specs.declared.Cell.{Cell}
 use Rattle.rules.specs.declared.MemoryAddress.{MemoryAddress}
 use Rattle.rules.specs.declared.ProgramAddress.{ProgramAddress}
 use Rattle.rules.specs.declared.Registers.{Registers}
+use Rattle.rules.specs.declared.Shown.{Shown}
+use Rattle.rules.specs.declared.Shown.the-variants.{Nothing, Byte}
 use Rattle.rules.specs.declared.Effect.{Effect}
 
 -- ---- addresses: "a memory address and a program address are never taken for each other"
@@ -21,32 +23,37 @@ programAddress b = record { 0 = b }
 abbrev pub following : Registers → ProgramAddress
 following r = record { 0 = r .pc + 1 }
 
--- ---- the cells that are written: "An unchanged cell that is written counts."
+-- ---- what is written: the cells, "An unchanged cell that is written counts."; and at most one byte of the output
 
 pub record Written : Type 0 where
   pub at : ℕ
   pub count : ℕ
   pub first : Cell
   pub second : Cell
+  pub shows : Shown
 
 abbrev pub nothing : Written
-nothing = record { at = 0; count = 0; first = int 0; second = int 0 }
+nothing = record { at = 0; count = 0; first = int 0; second = int 0; shows = Nothing }
 
 abbrev pub cell : ℕ → Cell → Written
-cell a c = record { at = a; count = 1; first = c; second = int 0 }
+cell a c = record { at = a; count = 1; first = c; second = int 0; shows = Nothing }
 
 -- side by side
 abbrev pub pair : ℕ → Cell → Cell → Written
-pair a c d = record { at = a; count = 2; first = c; second = d }
+pair a c d = record { at = a; count = 2; first = c; second = d; shows = Nothing }
 
 -- "INT 0 in each cell from .. to just below"
 abbrev pub zeros : ℕ → ℕ → Written
-zeros from to = record { at = from; count = to - from; first = int 0; second = int 0 }
+zeros from to = record { at = from; count = to - from; first = int 0; second = int 0; shows = Nothing }
 
--- the registers after, and those cells: every effect is made here
+-- "WRITECH writes no cell" (02 h), but a byte
+abbrev pub byte : ℕ → Written
+byte b = record { at = 0; count = 0; first = int 0; second = int 0; shows = Byte b }
+
+-- the registers after, and what is written: every effect is made here
 abbrev pub effect : (pc sp fbr halt : ℕ) → Written → Effect
 effect pc sp fbr halt w =
-    record { pc = pc; sp = sp; fbr = fbr; halt = halt; at = w .at; count = w .count; first = w .first; second = w .second }
+    record { pc = pc; sp = sp; fbr = fbr; halt = halt; at = w .at; count = w .count; first = w .first; second = w .second; shows = w .shows }
 
 -- ---- the effects: "Cells written: one for each pushed result; DUP 1 (the copy); SWAP 2; a store 1; ADDSP and POPSP as above; jumps without push,
 -- POPFBR and STOP 0." "Popped cells otherwise keep their contents."
@@ -82,6 +89,10 @@ jumped r k a = effect (a .0) (r .sp - k) (r .fbr) 0 nothing
 -- "JSR and JSRIND push PA PC+1; JSRIND pops its PA first"
 abbrev pub called : Registers → ℕ → ProgramAddress → Effect
 called r k a = effect (a .0) (r .sp - k + 1) (r .fbr) 0 (cell (r .sp - k) (pa (following r .0)))
+
+-- "WRITECH .., which pops a CH and appends it to a lent output" (02 h)
+abbrev pub shown : Registers → ℕ → Effect
+shown r b = effect (r .pc + 1) (r .sp - 1) (r .fbr) 0 (byte b)
 
 -- "STOP sets HALT and leaves PC."
 abbrev pub halted : Registers → Effect

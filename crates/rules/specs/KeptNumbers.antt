@@ -25,10 +25,10 @@ pub record Seen : Type 0 where
   pub registers : Registers
   pub memory : Memory
 
-abbrev seenStep : Registers → Stepped → Seen
+abbrev pub seenStep : Registers → Stepped → Seen
 seenStep r o = record { number = numberOfStep (o .answer); registers = registersAfter r (o .answer); memory = o .memory }
 
-abbrev seenRun : Ran → Seen
+abbrev pub seenRun : Ran → Seen
 seenRun a = record { number = numberOfEnding (a .answer .ending); registers = a .answer .registers; memory = a .memory }
 
 -- that many step-backs, one after the other
@@ -51,10 +51,10 @@ after h source limit back number kept =
 -- ---- states made by hand, of two cells under `JUMP 0`, with these history places, the first so many of them used
 
 abbrev registersGiven : List ℕ → (used kept : ℕ) → Registers
-registersGiven l used kept = record { n = 2; h = length l; pc = 0; sp = 0; fbr = 0; halt = 0; used = used; kept = kept }
+registersGiven l used kept = record { n = 2; h = length l; pc = 0; sp = 0; fbr = 0; halt = 0; used = used; kept = kept; written = 0 }
 
 abbrev memoryGiven : List ℕ → Memory
-memoryGiven l = memory (0 ∷ 0 ∷ []) (0 ∷ 0 ∷ []) l
+memoryGiven l = memory (0 ∷ 0 ∷ []) (0 ∷ 0 ∷ []) l []
 
 -- the place of a JUMP at PC 0, and of a step that says it wrote one cell
 abbrev jumped : ℕ

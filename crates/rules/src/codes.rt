@@ -103,5 +103,9 @@ pub const ITOF: usize = 50;
 
 pub const FTOI: usize = 51;
 
+pub const PUSHIMMCH: usize = 52;
+
+pub const WRITECH: usize = 53;
+
 // How many there are: a code is below it.
-pub const COUNT: usize = 52;
+pub const COUNT: usize = 54;

@@ -16,6 +16,12 @@ pub const MAX_CELLS: usize = 1_000;
 // "History of H places, 0 to 8,192."
 pub const MAX_HISTORY: usize = 8_192;
 
+// "a lent output of 0 to 256 bytes" (02 h)
+pub const MAX_OUTPUT: usize = 256;
+
+// "tag CH (4) with codes 0 to 127" (02 h)
+pub const MAX_CHARACTER: u32 = 127;
+
 // "Run limit 0 to 1,000,000."
 pub const MAX_LIMIT: usize = 1_000_000;
 

@@ -31,18 +31,18 @@ pub untold-by : (n : ℕ) (l : List ℕ) → (length l ≡ n → ⊥) → (size 
 untold-by n l h size out call e = ap (filled notItsLength l) e ∙ sym (of-another n l _ _ h)
 
 module _ (l : List ℕ) (h : length l ≡ registerCount) (instead : Moved) where
-  pub reset-called : {k : ℕ} {a : Reset} {s : Started} {registers bits tags history : List ℕ} → started a bits tags history ≡ s
+  pub reset-called : {k : ℕ} {a : Reset} {s : Started} {registers bits tags history output : List ℕ} → started a bits tags history output ≡ s
       → registers ≡ listOf (a .registers) → k ≡ numberOfReset (a .begun)
-      → moved k registers (memory bits tags history) ≡ ofLength registerCount l (resetMoved s) instead
-  reset-called {bits = bits} {tags = tags} {history = history} es el ek =
-      (λ i. moved (ek i) (el i) (memory bits tags history)) ∙ ap resetMoved es ∙ sym (of-length registerCount l _ _ h)
+      → moved k registers (memory bits tags history output) ≡ ofLength registerCount l (resetMoved s) instead
+  reset-called {bits = bits} {tags = tags} {history = history} {output = output} es el ek =
+      (λ i. moved (ek i) (el i) (memory bits tags history output)) ∙ ap resetMoved es ∙ sym (of-length registerCount l _ _ h)
 
   -- a step or a step-back f, which answers a
-  pub step-called : (f : Registers → Stepped) {k : ℕ} {r next : Registers} {a : Step} {registers bits tags history : List ℕ} → r ≡ registersOf l
-      → stepped a bits tags history ≡ f r → next ≡ registersAfter r a → registers ≡ listOf next → k ≡ numberOfStep a
-      → moved k registers (memory bits tags history) ≡ ofLength registerCount l (stepMoved (registersOf l) (f (registersOf l))) instead
-  step-called f {r = r} {bits = bits} {tags = tags} {history = history} er es en el ek =
-      (λ i. moved (ek i) ((el ∙ ap listOf en) i) (memory bits tags history))
+  pub step-called : (f : Registers → Stepped) {k : ℕ} {r next : Registers} {a : Step} {registers bits tags history output : List ℕ} → r ≡ registersOf l
+      → stepped a bits tags history output ≡ f r → next ≡ registersAfter r a → registers ≡ listOf next → k ≡ numberOfStep a
+      → moved k registers (memory bits tags history output) ≡ ofLength registerCount l (stepMoved (registersOf l) (f (registersOf l))) instead
+  step-called f {r = r} {bits = bits} {tags = tags} {history = history} {output = output} er es en el ek =
+      (λ i. moved (ek i) ((el ∙ ap listOf en) i) (memory bits tags history output))
       ∙ ap (stepMoved r) es
       ∙ ap (λ (q : Registers). stepMoved q (f q)) er
       ∙ sym (of-length registerCount l _ _ h)

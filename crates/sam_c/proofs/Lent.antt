@@ -37,7 +37,8 @@ listed l h = spelled-all registerCount 0 l (sym h)
 
 abbrev pub setAll : Registers → List ℕ → List ℕ
 setAll r l =
-    set (set (set (set (set (set (set (set l 0 (r .n)) 1 (r .h)) 2 (r .pc)) 3 (r .sp)) 4 (r .fbr)) 5 (r .halt)) 6 (r .used)) 7 (r .kept)
+    set (set (set (set (set (set (set (set (set l 0 (r .n)) 1 (r .h)) 2 (r .pc)) 3 (r .sp)) 4 (r .fbr)) 5 (r .halt)) 6 (r .used)) 7 (r .kept)) 8
+    (r .written)
 
 pub set-all : (r : Registers) (l : List ℕ) → length l ≡ registerCount → setAll r l ≡ listOf r
 set-all r l h = ap (setAll r) (sym (listed l h))

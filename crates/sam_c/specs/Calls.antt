@@ -36,7 +36,7 @@ pub record Filled : Type 0 where
 abbrev pub filled : ℕ → List ℕ → List ℕ → Filled
 filled k told output = record { number = k; told = told; output = output }
 
--- of a call on a machine: its number, the registers, and the cells and the history
+-- of a call on a machine: its number, the registers, and cells, history and output
 pub record Moved : Type 0 where
   pub number : ℕ
   pub registers : List ℕ
@@ -82,11 +82,11 @@ notRegisters false = machineNumber OutsideSizes
 
 -- how many registers there are
 abbrev pub registerCount : ℕ
-registerCount = 8
+registerCount = 9
 
 -- the registers as a list, and a list of so many as registers
 abbrev pub listOf : Registers → List ℕ
-listOf r = r .n ∷ r .h ∷ r .pc ∷ r .sp ∷ r .fbr ∷ r .halt ∷ r .used ∷ r .kept ∷ []
+listOf r = r .n ∷ r .h ∷ r .pc ∷ r .sp ∷ r .fbr ∷ r .halt ∷ r .used ∷ r .kept ∷ r .written ∷ []
 
 abbrev pub registersOf : List ℕ → Registers
 registersOf l =
@@ -99,6 +99,7 @@ registersOf l =
       halt = getD l 5 0;
       used = getD l 6 0;
       kept = getD l 7 0;
+      written = getD l 8 0;
     }
 
 -- ---- the calls that fill an output: "Refused writers leave an output of wrong length untouched, zero one of right length", refused for what they tell too
@@ -135,7 +136,7 @@ unpackCall image table told = ofLength 1 told (packFilled (unpack image table)) 
 
 -- ---- the calls on a machine
 
--- "A refused reset returns zero registers.", where there are eight
+-- "A refused reset returns zero registers.", where there are nine
 abbrev pub resetMoved : Started → Moved
 resetMoved s = moved (numberOfReset (s .answer .begun)) (listOf (s .answer .registers)) (s .memory)
 

@@ -7,7 +7,7 @@ use mathlib.Core.List.{List, [], _∷_}
 use lib.ListN.{replicate}
 use lib.Dec.{eqb}
 use Rattle.rules.specs.Lists.{text, every, same}
-use Rattle.rules.specs.Sizes.{maxProgram, maxHistory, maxLimit, listingSize, imageSize}
+use Rattle.rules.specs.Sizes.{maxProgram, maxHistory, maxOutput, maxLimit, listingSize, imageSize}
 use Rattle.rules.specs.Table.{program}
 use Rattle.rules.specs.State.{Memory, memory}
 use Rattle.rules.specs.Examples.{programOf, holds}
@@ -24,7 +24,7 @@ zeros n = replicate n 0
 abbrev isUntold : Filled → List ℕ → List ℕ → Bool
 isUntold f told output = eqb (f .number) 31 && same (f .told) told && same (f .output) output
 
--- that number, the registers left as they were, and cells and history too
+-- that number, the registers left as they were, and cells, history and output too
 abbrev stays : Moved → ℕ → List ℕ → Memory → Bool
 stays c number registers m =
     eqb (c .number) number
@@ -32,17 +32,18 @@ stays c number registers m =
     && same (c .memory .cells .bits) (m .cells .bits)
     && same (c .memory .cells .tags) (m .cells .tags)
     && same (c .memory .history) (m .history)
+    && same (c .memory .output) (m .output)
 
--- a reset of a sound table with so many registers, and cells, tags and history of these lengths
-abbrev resets : (number registers bits tags history : ℕ) → Bool
-resets number registers bits tags history =
-    let m = memory (old bits) (old tags) (old history) in
+-- a reset of a sound table with so many registers, and cells, tags, history and output of these lengths
+abbrev resets : (number registers bits tags history output : ℕ) → Bool
+resets number registers bits tags history output =
+    let m = memory (old bits) (old tags) (old history) (old output) in
     stays (resetCall (programOf "STOP") (old registers) m) number (old registers) m
 
 -- a run with that limit, so many registers and so many values to tell, which are told as these
 abbrev runs : (number limit registers : ℕ) (told after : List ℕ) → Bool
 runs number limit registers told after =
-    let m = memory (old 2) (old 2) (old 3) in
+    let m = memory (old 2) (old 2) (old 3) (old 2) in
     let w = runCall (programOf "STOP") limit (old registers) m told in
     stays (w .moved) number (old registers) m && same (w .told) after
 
@@ -58,17 +59,18 @@ lengths =
     ∷ isUntold (packCall (program [] 1) (old imageSize) []) [] (zeros imageSize)
     ∷ isUntold (unpackCall [] (old maxProgram) (old 4)) (old 4) (zeros maxProgram)
     ∷ isUntold (unpackCall [] (old 1) (old 2)) (old 2) (old 1)
-    -- "Reset: 11 before 10.": no cells, tags of another count, a history of 8,193 places; then registers of another length
-    ∷ resets 11 7 0 0 0
-    ∷ resets 11 7 2 1 0
-    ∷ resets 11 9 1 1 (maxHistory + 1)
-    ∷ resets 10 7 1 1 0
-    ∷ resets 10 0 1 1 2
+    -- "Reset: 11 before 10.": no cells, tags of another count, a history of 8,193 places, an output of 257 bytes; then registers of another length
+    ∷ resets 11 8 0 0 0 0
+    ∷ resets 11 8 2 1 0 2
+    ∷ resets 11 10 1 1 (maxHistory + 1) 0
+    ∷ resets 11 8 1 1 2 (maxOutput + 1)
+    ∷ resets 10 8 1 1 0 maxOutput
+    ∷ resets 10 0 1 1 2 0
     -- "Run: 11, then 10."; what is told comes before both
-    ∷ runs 11 (maxLimit + 1) 7 (old 1) (zeros 1)
-    ∷ runs 10 maxLimit 7 (old 1) (zeros 1)
-    ∷ runs 10 0 9 (old 1) (zeros 1)
-    ∷ runs 31 (maxLimit + 1) 7 (old 2) (old 2)
+    ∷ runs 11 (maxLimit + 1) 8 (old 1) (zeros 1)
+    ∷ runs 10 maxLimit 8 (old 1) (zeros 1)
+    ∷ runs 10 0 10 (old 1) (zeros 1)
+    ∷ runs 31 (maxLimit + 1) 8 (old 2) (old 2)
     ∷ []
 
 pub all-lengths : every lengths ≡ true

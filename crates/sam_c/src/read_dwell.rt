@@ -15,9 +15,10 @@ pub extern "C" fn sam_dwell(
     bits: &[u32],
     tags: &[u8],
     history: &[u64],
+    output: &[u8],
     told: &mut [u64],
 ) -> u32
-    ensures { λ a. ⌜ answered a (now (told .exit)) ≡ dwellCall (program (now (table .entry)) length) (now (registers .entry)) (memory (now (bits .entry)) (now (tags .entry)) (now (history .entry))) (now (told .entry)) ⌝ }
+    ensures { λ a. ⌜ answered a (now (told .exit)) ≡ dwellCall (program (now (table .entry)) length) (now (registers .entry)) (memory (now (bits .entry)) (now (tags .entry)) (now (history .entry)) (now (output .entry))) (now (told .entry)) ⌝ }
 {
     if told.len() != 1 {
         return told::NOT_ITS_LENGTH;
@@ -27,7 +28,7 @@ pub extern "C" fn sam_dwell(
         return registers::BROKEN;
     }
     let r = registers::read(registers);
-    let answer = dwell::dwell(table, length as usize, r, bits, tags, history);
+    let answer = dwell::dwell(table, length as usize, r, bits, tags, history, output);
     told::tell(told, numbers::dwell_tenths(answer));
     numbers::dwell_number(answer)
 }

@@ -1,4 +1,4 @@
-// The eight registers in a lent slice, in the order N, H, PC, SP, FBR, HALT, U, kept.
+// The nine registers in a lent slice, in the order N, H, PC, SP, FBR, HALT, U, kept, written.
 use rules::Registers;
 use rules::Step;
 ghost use mathlib.Core.Path.{_≡_};
@@ -7,7 +7,7 @@ ghost use Rattle.rules.specs.Numbers.{registersAfter};
 ghost use Rattle.sam_c.specs.Calls.{notRegisters, registerCount, listOf, registersOf};
 
 // How many there are.
-pub(crate) const COUNT: usize = 8;
+pub(crate) const COUNT: usize = 9;
 
 // "broken state or table", where a call is lent registers of another length.
 pub(crate) const BROKEN: u32 = 10;
@@ -39,6 +39,7 @@ pub(crate) fn read(registers: &[u64]) -> Registers
         halt: registers[5] as usize,
         used: registers[6] as usize,
         kept: registers[7] as usize,
+        written: registers[8] as usize,
     }
 }
 
@@ -55,6 +56,7 @@ pub(crate) fn write(registers: &mut [u64], r: Registers)
     registers[5] = r.halt as u64;
     registers[6] = r.used as u64;
     registers[7] = r.kept as u64;
+    registers[8] = r.written as u64;
 }
 
 // Those after a step or a step-back: where it is refused, those before it.

@@ -17,9 +17,10 @@ pub extern "C" fn sam_run(
     bits: &mut [u32],
     tags: &mut [u8],
     history: &mut [u64],
+    output: &mut [u8],
     told: &mut [u64],
 ) -> u32
-    ensures { λ a. ⌜ walked (now (told .exit)) a (now (registers .exit)) (memory (now (bits .exit)) (now (tags .exit)) (now (history .exit))) ≡ runCall (program (now (table .entry)) length) limit (now (registers .entry)) (memory (now (bits .entry)) (now (tags .entry)) (now (history .entry))) (now (told .entry)) ⌝ }
+    ensures { λ a. ⌜ walked (now (told .exit)) a (now (registers .exit)) (memory (now (bits .exit)) (now (tags .exit)) (now (history .exit)) (now (output .exit))) ≡ runCall (program (now (table .entry)) length) limit (now (registers .entry)) (memory (now (bits .entry)) (now (tags .entry)) (now (history .entry)) (now (output .entry))) (now (told .entry)) ⌝ }
 {
     if told.len() != 1 {
         return told::NOT_ITS_LENGTH;
@@ -36,6 +37,7 @@ pub extern "C" fn sam_run(
         bits,
         tags,
         history,
+        output,
         limit as usize,
     );
     let steps = answer.steps;

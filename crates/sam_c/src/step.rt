@@ -14,14 +14,15 @@ pub extern "C" fn sam_step(
     bits: &mut [u32],
     tags: &mut [u8],
     history: &mut [u64],
+    output: &mut [u8],
 ) -> u32
-    ensures { λ a. ⌜ moved a (now (registers .exit)) (memory (now (bits .exit)) (now (tags .exit)) (now (history .exit))) ≡ stepCall (program (now (table .entry)) length) (now (registers .entry)) (memory (now (bits .entry)) (now (tags .entry)) (now (history .entry))) ⌝ }
+    ensures { λ a. ⌜ moved a (now (registers .exit)) (memory (now (bits .exit)) (now (tags .exit)) (now (history .exit)) (now (output .exit))) ≡ stepCall (program (now (table .entry)) length) (now (registers .entry)) (memory (now (bits .entry)) (now (tags .entry)) (now (history .entry)) (now (output .entry))) ⌝ }
 {
     if registers.len() != registers::COUNT {
         return registers::BROKEN;
     }
     let r = registers::read(registers);
-    let answer = machine::step::step(table, length as usize, r, bits, tags, history);
+    let answer = machine::step::step(table, length as usize, r, bits, tags, history, output);
     registers::write(registers, registers::after(r, answer));
     numbers::step_number(answer)
 }

@@ -4,12 +4,14 @@ use mathlib.Core.Path.{_≡_, refl, sym, ap, ap₂, _∙_}
 use mathlib.Core.Bool.{Bool, true, false, _&&_, and-true, and-assoc}
 use mathlib.Core.List.{List}
 use lib.ListN.{length, getD, drop, drop-of-length-le}
+use native.Mathlib.Omega.{arith}
 use borrow.Author.Tests.{eqb-true}
 use Rattle.rules.specs.Lists.{every}
 use Rattle.rules.specs.Table.{Program, soundTable}
-use Rattle.rules.specs.State.{Memory, soundCell, soundCells, keptSizes, registersWithin, sound}
+use Rattle.rules.specs.State.{Memory, soundCell, soundCells, keptSizes, registersWithin, outputWithin, sound}
 use Rattle.rules.specs.declared.Registers.{Registers}
 use Rattle.rules.proofs.Tests.{every-at, drop-next}
+use Rattle.rules.proofs.Table.{table-short, table-long}
 use Rattle.rules.proofs.Fair.{Sound}
 use Rattle.rules.proofs.FairEffects.{sound-facts}
 use Rattle.rules.proofs.Tests.{and-then}
@@ -28,36 +30,52 @@ cells-done count ts bs i h = ap (λ (l : List ℕ). soundCells count l (drop i b
 
 -- ---- the parts of a state's tests
 
+-- those of the sizes, and those of the output
+abbrev pub sizes : Registers → Memory → List Bool
+sizes r m = keptSizes r (length (m .cells .bits)) (length (m .cells .tags)) (length (m .history))
+
+abbrev pub panel : Registers → Memory → List Bool
+panel r m = outputWithin (r .written) (length (m .output))
+
 module _ (p : Program) (r : Registers) (m : Memory) where
   pub sound-parts : sound p r m
       ≡ (soundTable p
-      && (every (keptSizes r (length (m .cells .bits)) (length (m .cells .tags)) (length (m .history)))
-      && (every (registersWithin (p .count) r) && soundCells (p .count) (m .cells .tags) (m .cells .bits))))
+      && (every (sizes r m) && (every (registersWithin (p .count) r) && (every (panel r m) && soundCells (p .count) (m .cells .tags) (m .cells .bits)))))
   unfolding sound
   sound-parts = simp (and-true, and-assoc)
 
   -- what a sound state gives
-  pub held : sound p r m ≡ true → Held r m
+  pub held : sound p r m ≡ true → Held p r m
   held h =
       let s : Sound p r m = sound-facts p r m h in
-      record { cells = s .bits; tagged = s .tags; places = s .history; used = s .used; none = s .none }
+      record {
+        table = omega (arith, table-short p (s .table), table-long p (s .table));
+        cells = s .bits;
+        tagged = s .tags;
+        places = s .history;
+        used = s .used;
+        none = s .none;
+        written = s .written;
+      }
 
   -- the early returns of the judgement, and its end
   module _ (made : soundTable p ≡ true) where
-    pub sound-sizes : every (keptSizes r (length (m .cells .bits)) (length (m .cells .tags)) (length (m .history))) ≡ false → sound p r m ≡ false
+    pub sound-sizes : every (sizes r m) ≡ false → sound p r m ≡ false
     sound-sizes h = sound-parts ∙ and-then made (rw h refl)
 
-    module _ (sized : every (keptSizes r (length (m .cells .bits)) (length (m .cells .tags)) (length (m .history))) ≡ true) where
+    module _ (sized : every (sizes r m) ≡ true) where
       pub sound-registers : every (registersWithin (p .count) r) ≡ false → sound p r m ≡ false
       sound-registers h = sound-parts ∙ and-then made (and-then sized (rw h refl))
 
-      pub sound-cells : every (registersWithin (p .count) r) ≡ true → sound p r m ≡ soundCells (p .count) (m .cells .tags) (m .cells .bits)
-      sound-cells h = sound-parts ∙ and-then made (and-then sized (and-then h refl))
-
       pub cells-equal : length (m .cells .tags) ≡ length (m .cells .bits)
-      cells-equal =
-          eqb-true _ _ (every-at (keptSizes r (length (m .cells .bits)) (length (m .cells .tags)) (length (m .history))) 4 sized)
-          ∙ sym (eqb-true _ _ (every-at (keptSizes r (length (m .cells .bits)) (length (m .cells .tags)) (length (m .history))) 3 sized))
+      cells-equal = eqb-true _ _ (every-at (sizes r m) 4 sized) ∙ sym (eqb-true _ _ (every-at (sizes r m) 3 sized))
+
+      module _ (within : every (registersWithin (p .count) r) ≡ true) where
+        pub sound-output : every (panel r m) ≡ false → sound p r m ≡ false
+        sound-output h = sound-parts ∙ and-then made (and-then sized (and-then within (rw h refl)))
+
+        pub sound-cells : every (panel r m) ≡ true → sound p r m ≡ soundCells (p .count) (m .cells .tags) (m .cells .bits)
+        sound-cells h = sound-parts ∙ and-then made (and-then sized (and-then within (and-then h refl)))
 
   pub sound-table : soundTable p ≡ false → sound p r m ≡ false
   sound-table h = sound-parts ∙ rw h refl

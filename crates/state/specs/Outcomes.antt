@@ -7,8 +7,8 @@ use Rattle.rules.specs.Reset.{Started}
 use Rattle.rules.specs.declared.Step.{Step}
 use Rattle.rules.specs.declared.Reset.{Reset}
 
-abbrev pub stepped : Step → List ℕ → List ℕ → List ℕ → Stepped
-stepped a bits tags history = record { answer = a; memory = memory bits tags history }
+abbrev pub stepped : Step → List ℕ → List ℕ → List ℕ → List ℕ → Stepped
+stepped a bits tags history output = record { answer = a; memory = memory bits tags history output }
 
-abbrev pub started : Reset → List ℕ → List ℕ → List ℕ → Started
-started a bits tags history = record { answer = a; memory = memory bits tags history }
+abbrev pub started : Reset → List ℕ → List ℕ → List ℕ → List ℕ → Started
+started a bits tags history output = record { answer = a; memory = memory bits tags history output }

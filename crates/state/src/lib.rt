@@ -1,4 +1,4 @@
-// The state between steps: whether a table, registers and lent slices are sound (document 01's 10), and the reset.
+// The state between steps: whether a table, registers and lent slices are sound (document 01's 10, with what requests g and h add to it), and the reset.
 use rules::Begun;
 use rules::MachineRefusal;
 use rules::Registers;
@@ -9,7 +9,7 @@ ghost use mathlib.Core.Path.{_≡_};
 ghost use lib.ListN.{length, replicate};
 ghost use Rattle.rules.specs.Lists.{every};
 ghost use Rattle.rules.specs.Table.{program};
-ghost use Rattle.rules.specs.State.{memory, soundCell, soundCells, keptSizes, keptWithin, registersWithin, sound};
+ghost use Rattle.rules.specs.State.{memory, soundCell, soundCells, keptSizes, keptWithin, outputWithin, registersWithin, sound};
 ghost use Rattle.rules.specs.Reset.{cleared, startSizes, reset};
 ghost use Rattle.state.specs.Outcomes.{started};
 
@@ -70,18 +70,31 @@ fn has_registers_within(r: Registers, count: usize) -> bool
     has_kept_within(r.used, r.kept)
 }
 
-// Whether a cell may stand in a sound state: its tag is at most PA, the last, and a PA is at most the program's length.
-fn is_sound_cell(count: usize, tag: u8, bits: u32) -> bool
+// Whether so many bytes of an output of `output` bytes may be written.
+fn has_output_within(written: usize, output: usize) -> bool
+    ensures { λ a. ⌜ a ≡ every (outputWithin written output) ⌝ }
+{
+    if sizes::MAX_OUTPUT < output {
+        return false;
+    }
+    written <= output
+}
+
+// Whether a cell may stand in a sound state: its tag is at most CH, the last, a PA is at most the program's length, and a CH at most the last character.
+pub fn is_sound_cell(count: usize, tag: u8, bits: u32) -> bool
     ensures { λ a. ⌜ a ≡ soundCell count tag bits ⌝ }
 {
     let address = bits as usize;
-    if tags::PA < tag {
+    if tags::CH < tag {
         return false;
     }
-    if tag != tags::PA {
+    if tag == tags::PA {
+        return address <= count;
+    }
+    if tag != tags::CH {
         return true;
     }
-    address <= count
+    bits <= sizes::MAX_CHARACTER
 }
 
 // Whether every cell may.
@@ -108,8 +121,9 @@ pub fn is_sound(
     bits: &[u32],
     tags: &[u8],
     history: &[u64],
+    output: &[u8],
 ) -> bool
-    ensures { λ a. ⌜ a ≡ sound (program (now (table .entry)) length) r (memory (now (bits .entry)) (now (tags .entry)) (now (history .entry))) ⌝ }
+    ensures { λ a. ⌜ a ≡ sound (program (now (table .entry)) length) r (memory (now (bits .entry)) (now (tags .entry)) (now (history .entry)) (now (output .entry))) ⌝ }
 {
     let made = program::table::is_sound(table, length);
     if !made {
@@ -123,12 +137,16 @@ pub fn is_sound(
     if !within {
         return false;
     }
+    let written = has_output_within(r.written, output.len());
+    if !written {
+        return false;
+    }
     are_sound_cells(length, tags, bits)
 }
 
-// Whether a reset takes cells, tags and history of these lengths: where not, it answers 11.
-pub fn has_start_sizes(bits: usize, tags: usize, history: usize) -> bool
-    ensures { λ a. ⌜ a ≡ every (startSizes bits tags history) ⌝ }
+// Whether a reset takes cells, tags, history and output of these lengths: where not, it answers 11.
+pub fn has_start_sizes(bits: usize, tags: usize, history: usize, output: usize) -> bool
+    ensures { λ a. ⌜ a ≡ every (startSizes bits tags history output) ⌝ }
 {
     if bits < 1 {
         return false;
@@ -139,7 +157,10 @@ pub fn has_start_sizes(bits: usize, tags: usize, history: usize) -> bool
     if sizes::MAX_HISTORY < history {
         return false;
     }
-    tags == bits
+    if tags != bits {
+        return false;
+    }
+    output <= sizes::MAX_OUTPUT
 }
 
 // Sets every cell to INT 0.
@@ -169,22 +190,24 @@ fn zero_registers(n: usize, h: usize) -> Registers
         halt: 0,
         used: 0,
         kept: 0,
+        written: 0,
     }
 }
 
-// Sets cells to INT 0 and all history places to 0, and answers the registers to start with; or refuses and changes nothing.
+// Sets cells to INT 0, and all history places and bytes of the output to 0, and answers the registers to start with; or refuses and changes nothing.
 pub fn reset(
     table: &[u64],
     length: usize,
     bits: &mut [u32],
     tags: &mut [u8],
     history: &mut [u64],
+    output: &mut [u8],
 ) -> Reset
-    ensures { λ a. ⌜ started a (now (bits .exit)) (now (tags .exit)) (now (history .exit)) ≡ reset (program (now (table .entry)) length) (memory (now (bits .entry)) (now (tags .entry)) (now (history .entry))) ⌝ }
+    ensures { λ a. ⌜ started a (now (bits .exit)) (now (tags .exit)) (now (history .exit)) (now (output .exit)) ≡ reset (program (now (table .entry)) length) (memory (now (bits .entry)) (now (tags .entry)) (now (history .entry)) (now (output .entry))) ⌝ }
 {
     let n = bits.len();
     let h = history.len();
-    let sized = has_start_sizes(n, tags.len(), h);
+    let sized = has_start_sizes(n, tags.len(), h, output.len());
     if !sized {
         return Reset {
             begun: Begun::NotReady(MachineRefusal::OutsideSizes),
@@ -200,6 +223,7 @@ pub fn reset(
     }
     clear_cells(bits, tags);
     lent::clear_places(history);
+    lent::clear_bytes(output);
     Reset {
         begun: Begun::Ready,
         registers: zero_registers(n, h),

@@ -28,9 +28,10 @@ fn forth(
     bits: &mut [u32],
     tags: &mut [u8],
     history: &mut [u64],
+    output: &mut [u8],
 ) -> Registers {
     after(
-        machine::step::step(table, length, r, bits, tags, history),
+        machine::step::step(table, length, r, bits, tags, history, output),
         r,
     )
 }
@@ -42,16 +43,28 @@ fn back(
     bits: &mut [u32],
     tags: &mut [u8],
     history: &mut [u64],
+    output: &mut [u8],
 ) -> Registers {
-    after(back::step_back(table, length, r, bits, tags, history), r)
+    after(
+        back::step_back(table, length, r, bits, tags, history, output),
+        r,
+    )
 }
 
-// Shows cell 0 of a machine of 16 cells and 6 history places after the first step, after two more, and after one step-back.
+// Shows cell 0 of a machine of 16 cells, 6 history places and no output after the first step, after two more, and after one step-back.
 fn trial(table: &[u64], length: usize) {
     let mut bits = [0u32; 16];
     let mut tags = [0u8; 16];
     let mut history = [0u64; 6];
-    let start = state::reset(table, length, &mut bits, &mut tags, &mut history);
+    let mut output = [0u8; 0];
+    let start = state::reset(
+        table,
+        length,
+        &mut bits,
+        &mut tags,
+        &mut history,
+        &mut output,
+    );
     let first = forth(
         table,
         length,
@@ -59,12 +72,37 @@ fn trial(table: &[u64], length: usize) {
         &mut bits,
         &mut tags,
         &mut history,
+        &mut output,
     );
     show_cell(b"before", bits[0], tags[0]);
-    let second = forth(table, length, first, &mut bits, &mut tags, &mut history);
-    let third = forth(table, length, second, &mut bits, &mut tags, &mut history);
+    let second = forth(
+        table,
+        length,
+        first,
+        &mut bits,
+        &mut tags,
+        &mut history,
+        &mut output,
+    );
+    let third = forth(
+        table,
+        length,
+        second,
+        &mut bits,
+        &mut tags,
+        &mut history,
+        &mut output,
+    );
     show_cell(b"trial", bits[0], tags[0]);
-    back(table, length, third, &mut bits, &mut tags, &mut history);
+    back(
+        table,
+        length,
+        third,
+        &mut bits,
+        &mut tags,
+        &mut history,
+        &mut output,
+    );
     show_cell(b"back", bits[0], tags[0]);
 }
 

@@ -1,6 +1,6 @@
-// Runs the published programs of document 004 in the slides' order, and the complaint. The programs are those of standard input, each with its
-// name behind it in a line that `~` begins; their texts are the slides' own, as `bench/teaching` has them. What it writes is held to what an
-// independent interpreter of document 01 prints for the same sources (`bench/teaching.py`).
+// Runs the published programs of document 004 in the slides' order, the word for the landing panel, and the complaint. The programs are those of
+// standard input, each with its name behind it in a line that `~` begins; `bench/teaching` has their texts, the published ones as the slides do. What
+// it writes is held to what an independent interpreter of document 01 prints for the same sources (`bench/teaching.py`).
 use libc::STDIN_FILENO;
 
 mod complaint;

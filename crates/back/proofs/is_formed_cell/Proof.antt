@@ -1,14 +1,13 @@
 -- `back::is_formed_cell` meets its contract: each early return is one test that fails. Assumes nothing.
 use Prim.Native.Nat.{ℕ}
-use mathlib.Core.Path.{sym, ap, _∙_}
-use mathlib.Core.Bool.{Bool, not, _||_, and-true}
+use mathlib.Core.Path.{sym, ap, ap₂, _∙_}
+use mathlib.Core.Bool.{and-true}
 use borrow.Author.Needs.{needs}
 use borrow.Author.Tests.{lt-ltb, le-ltb, le-leb, lt-leb, eq-eqb, ne-eqb}
 use lib.Dec.{eqb, leb, ltb}
-use Rattle.rules.specs.Places.{cellBits}
+use Rattle.rules.specs.State.{soundCell}
 use Rattle.rules.specs.Back.{cellTests}
-use Rattle.rules.proofs.Tests.{every-false}
-use Rattle.rules.proofs.Tests.{and-then}
+use Rattle.rules.proofs.Tests.{every-false, and-then}
 use Rattle.back.proofs.is_formed_cell.Statement.{statement}
 use Rattle.back.proofs.is_formed_cell.Tie as tie
 
@@ -44,31 +43,27 @@ returns-4 c =
 cell-tag-requires : tie.Need-cell-tag-requires
 cell-tag-requires c κs = search needs
 
-returns-5 : tie.Need-returns-5
-returns-5 c =
-    let a = c .before .before .before .before .before .before .before .before .before .args in
-    sym
-    (and-then (ap (λ (k : ℕ). eqb k 0) (sym (c .before .before .before .before .before .before .before .mark-of .ensures)) ∙ eq-eqb _ _ (c .before .before .before .before .before .before .if1 .left))
-    (and-then (ap (λ (k : ℕ). eqb k 0) (sym (c .before .before .before .before .before .cell-zeros .ensures)) ∙ eq-eqb _ _ (c .before .before .before .before .if2 .left))
-    (and-then (ap (λ (k : ℕ). leb (a .low) k) (sym (c .before .before .before .before .before .before .before .before .cell-address .ensures)) ∙ le-leb _ _ (c .before .before .before .if3 .left))
-    (and-then (ap (λ (k : ℕ). ltb k (a .n)) (sym (c .before .before .before .before .before .before .before .before .cell-address .ensures)) ∙ lt-ltb _ _ (c .before .before .if4 .left))
-    (and-true _ ∙ ap (λ (z : Bool). not z || leb (cellBits (a .place)) (a .count)) (ap (λ (k : ℕ). eqb k 3) (sym (c .before .cell-tag .ensures)) ∙ ne-eqb _ _ (c .if5 .taken)))))))
-
 cell-bits-requires : tie.Need-cell-bits-requires
 cell-bits-requires c κs = search needs
 
-cast-result : tie.Need-cast-result
-cast-result c = search needs
+is-sound-cell-requires : tie.Need-is-sound-cell-requires
+is-sound-cell-requires c κs = search needs
 
-returns-6 : tie.Need-returns-6
-returns-6 c =
-    let a = c .before .before .before .before .before .before .before .before .before .before .args in
+returns-5 : tie.Need-returns-5
+returns-5 c =
+    let at-if4 = c .before .before .before in
+    let at-if3 = at-if4 .before in
+    let at-if2 = at-if3 .before in
+    let at-if1 = at-if2 .before .before in
+    let at-address = at-if1 .before .before in
+    let a = at-address .before .args in
+    let address = sym (at-address .cell-address .ensures) in
     sym
-    (and-then (ap (λ (k : ℕ). eqb k 0) (sym (c .before .before .before .before .before .before .before .before .mark-of .ensures)) ∙ eq-eqb _ _ (c .before .before .before .before .before .before .before .if1 .left))
-    (and-then (ap (λ (k : ℕ). eqb k 0) (sym (c .before .before .before .before .before .before .cell-zeros .ensures)) ∙ eq-eqb _ _ (c .before .before .before .before .before .if2 .left))
-    (and-then (ap (λ (k : ℕ). leb (a .low) k) (sym (c .before .before .before .before .before .before .before .before .before .cell-address .ensures)) ∙ le-leb _ _ (c .before .before .before .before .if3 .left))
-    (and-then (ap (λ (k : ℕ). ltb k (a .n)) (sym (c .before .before .before .before .before .before .before .before .before .cell-address .ensures)) ∙ lt-ltb _ _ (c .before .before .before .if4 .left))
-    (and-true _ ∙ ap (λ (z : Bool). not z || leb (cellBits (a .place)) (a .count)) (ap (λ (k : ℕ). eqb k 3) (sym (c .before .before .cell-tag .ensures)) ∙ eq-eqb _ _ (c .before .if5 .left)) ∙ ap (λ (k : ℕ). leb k (a .count)) (sym (c .cell-bits .ensures)))))))
+    (and-then (ap (λ (k : ℕ). eqb k 0) (sym (at-if1 .before .mark-of .ensures)) ∙ eq-eqb _ _ (at-if1 .if1 .left))
+    (and-then (ap (λ (k : ℕ). eqb k 0) (sym (at-if2 .before .cell-zeros .ensures)) ∙ eq-eqb _ _ (at-if2 .if2 .left))
+    (and-then (ap (λ (k : ℕ). leb (a .low) k) address ∙ le-leb _ _ (at-if3 .if3 .left))
+    (and-then (ap (λ (k : ℕ). ltb k (a .n)) address ∙ lt-ltb _ _ (at-if4 .if4 .left))
+    (and-true _ ∙ sym (c .is-sound-cell .ensures ∙ ap₂ (soundCell (a .count)) (c .before .before .cell-tag .ensures) (c .before .cell-bits .ensures)))))))
 
 pub is-formed-cell-spec : {M : Type 1} → statement M
 is-formed-cell-spec =
@@ -82,7 +77,6 @@ is-formed-cell-spec =
     returns-3
     returns-4
     cell-tag-requires
-    returns-5
     cell-bits-requires
-    cast-result
-    returns-6)
+    is-sound-cell-requires
+    returns-5)

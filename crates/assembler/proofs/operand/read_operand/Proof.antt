@@ -57,6 +57,15 @@ enum-told-5 c = search needs
 read-target-requires : tie.Need-read-target-requires
 read-target-requires c κs = search needs
 
+enum-told-6 : tie.Need-enum-told-6
+enum-told-6 c = search needs
+
+number-of-requires-3 : tie.Need-number-of-requires-3
+number-of-requires-3 c κs = search needs
+
+plain-word-requires-4 : tie.Need-plain-word-requires-4
+plain-word-requires-4 c κs = search needs
+
 returns : tie.Need-returns
 unfolding between
 returns c =
@@ -102,6 +111,15 @@ returns-5 c =
     let e = ap (λ (k : Kind). operandOfKind k (a .code) (a .start) t) (sym (c .before .before .before .kind-of .ensures) ∙ c .before .enum-told5 .given .1) in
     rw e (c .read-target .ensures)
 
+returns-6 : tie.Need-returns-6
+unfolding between
+returns-6 c =
+    let a = c .before .before .before .before .before .before .before .args in
+    let s = a .src .now in
+    let t = take (a .end - a .start) (drop (a .start) s) in
+    let e = ap (λ (k : Kind). operandOfKind k (a .code) (a .start) t) (sym (c .before .before .before .before .kind-of .ensures) ∙ c .before .before .enum-told6 .given .1) ∙ ap (plainNumber (a .code)) (sym (c .before .number-of3 .ensures)) in
+    rw e (c .plain-word4 .ensures s)
+
 pub read-operand-spec : {M : Type 1} → statement M
 read-operand-spec =
     tie.close
@@ -122,8 +140,12 @@ read-operand-spec =
     plain-word-requires-3
     enum-told-5
     read-target-requires
+    enum-told-6
+    number-of-requires-3
+    plain-word-requires-4
     returns
     returns-2
     returns-3
     returns-4
-    returns-5)
+    returns-5
+    returns-6)

@@ -16,7 +16,7 @@ use Rattle.console.proofs.report.put_cells.Tie as tie
 
 abbrev Inv-loop : tie.InvT-loop
 Inv-loop out₀ at sp bits tags told₀ i₀ out told i =
-    (i ≤ sp) × (told ≤ 29 * i) × (length out ≡ length out₀) × Put out₀ out at (cellLines (memory bits tags []) 0 i) told
+    (i ≤ sp) × (told ≤ 29 * i) × (length out ≡ length out₀) × Put out₀ out at (cellLines (memory bits tags [] []) 0 i) told
 
 abbrev μ-loop : tie.MeasureT-loop
 μ-loop out₀ at sp bits tags told₀ i₀ out told i =
@@ -49,7 +49,10 @@ put-cell-requires c κs =
 
 add-told : tie.Need-add-told Inv-loop μ-loop
 add-told c =
-    omega (arith, c .before .before .before .before .before .before .before .before .before .before .before .pre, c .before .before .put-cell .ensures .length-told, law.cell-short (c .before .before .before .before .before .before .before .loop .i) (getD (c .before .before .before .before .before .before .before .before .before .before .before .args .bits .now) (c .before .before .before .before .before .before .before .loop .i) 0) (getD (c .before .before .before .before .before .before .before .before .before .before .before .args .tags .now) (c .before .before .before .before .before .before .before .loop .i) 0))
+    let start = c .before .before .before .before .before .before .before .before .before .before .before in
+    let i = c .before .before .before .before .before .before .before .loop .i in
+    let short = law.cell-short i (getD (start .args .bits .now) i 0) (getD (start .args .tags .now) i 0) in
+    omega (arith, start .pre, c .before .before .put-cell .ensures .length-told, short)
 
 add-i : tie.Need-add-i Inv-loop μ-loop
 add-i c =
@@ -61,11 +64,14 @@ loop-less c =
 
 loop-again : tie.Need-loop-again Inv-loop μ-loop
 loop-again c =
-    let v = c .before .before .before .before .before .before .before .loop .inv in (
+    let bits = c .before .before .before .before .before .before .before .before .before .before .before .args .bits .now in
+    let tags = c .before .before .before .before .before .before .before .before .before .before .before .args .tags .now in
+    let loop = c .before .before .before .before .before .before .before .loop in
+    let put = c .before .before .put-cell in (
       omega arith,
-      omega (arith, c .before .before .put-cell .ensures .length-told, law.cell-short (c .before .before .before .before .before .before .before .loop .i) (getD (c .before .before .before .before .before .before .before .before .before .before .before .args .bits .now) (c .before .before .before .before .before .before .before .loop .i) 0) (getD (c .before .before .before .before .before .before .before .before .before .before .before .args .tags .now) (c .before .before .before .before .before .before .before .loop .i) 0)),
-      c .before .before .put-cell .kept .0 ∙ v .2,
-      rw (cells-next (c .before .before .before .before .before .before .before .before .before .before .before .args .bits .now) (c .before .before .before .before .before .before .before .before .before .before .before .args .tags .now) (c .before .before .before .before .before .before .before .loop .i)) (put-append (v .3) (c .before .before .put-cell .ensures)),
+      omega (arith, put .ensures .length-told, law.cell-short (loop .i) (getD bits (loop .i) 0) (getD tags (loop .i) 0)),
+      put .kept .0 ∙ loop .inv .2,
+      rw (cells-next bits tags (loop .i)) (put-append (loop .inv .3) (put .ensures)),
     )
 
 same-length : tie.Need-same-length Inv-loop μ-loop

@@ -65,16 +65,31 @@ unfolding text
 returns-4 c =
     (rw (law.tag-pa (c .before .before .before .before .before .before .before .before .before .before .args .tag) (c .before .before .before .before .before .if4 .taken)) (c .before .before .put-word4 .ensures .0), omega arith)
 
-put-byte-requires : tie.Need-put-byte-requires
-put-byte-requires c κs = search needs
+slice-aggregate-put-word-5 : tie.Need-slice-aggregate-put-word-5
+slice-aggregate-put-word-5 c = search needs
+
+put-word-requires-5 : tie.Need-put-word-requires-5
+put-word-requires-5 c κs = search needs
 
 same-length-5 : tie.Need-same-length-5
 same-length-5 c = search needs
 
 returns-5 : tie.Need-returns-5
+unfolding text
 returns-5 c =
-    let e : c .before .before .before .before .before .before .before .before .before .args .at + 0 ≡ c .before .before .before .before .before .before .before .before .before .args .at = omega arith in
-    (rw (law.tag-none (c .before .before .before .before .before .before .before .before .before .args .tag) (omega arith)) (record { length-told = refl; written = rw e at (c .before .before .put-byte .ensures) }), omega arith)
+    (rw (law.tag-ch (c .before .before .before .before .before .before .before .before .before .before .before .args .tag) (c .before .before .before .before .before .if5 .taken)) (c .before .before .put-word5 .ensures .0), omega arith)
+
+put-byte-requires : tie.Need-put-byte-requires
+put-byte-requires c κs = search needs
+
+same-length-6 : tie.Need-same-length-6
+same-length-6 c = search needs
+
+returns-6 : tie.Need-returns-6
+returns-6 c =
+    let a = c .before .before .before .before .before .before .before .before .before .before .args in
+    let e : a .at + 0 ≡ a .at = omega arith in
+    (rw (law.tag-none (a .tag) (omega arith)) (record { length-told = refl; written = rw e at (c .before .before .put-byte .ensures) }), omega arith)
 
 pub put-tag-spec : {M : Type 1} → statement M
 put-tag-spec =
@@ -96,6 +111,10 @@ put-tag-spec =
     put-word-requires-4
     same-length-4
     returns-4
-    put-byte-requires
+    slice-aggregate-put-word-5
+    put-word-requires-5
     same-length-5
-    returns-5)
+    returns-5
+    put-byte-requires
+    same-length-6
+    returns-6)

@@ -34,6 +34,9 @@ add-result c =
 enum-told-5 : tie.Need-enum-told-5
 enum-told-5 c = search needs
 
+enum-told-6 : tie.Need-enum-told-6
+enum-told-6 c = search needs
+
 returns-2 : tie.Need-returns-2
 returns-2 c = search needs
 
@@ -49,6 +52,9 @@ returns-5 c = simp (c .before .enum-told4 .given .1, le-ltb _ _ (c .if1 .left))
 returns-6 : tie.Need-returns-6
 returns-6 c = search needs
 
+returns-7 : tie.Need-returns-7
+returns-7 c = search needs
+
 pub table-bits-spec : {M : Type 1} → statement M
 table-bits-spec =
     tie.close
@@ -60,8 +66,10 @@ table-bits-spec =
     returns
     add-result
     enum-told-5
+    enum-told-6
     returns-2
     returns-3
     returns-4
     returns-5
-    returns-6)
+    returns-6
+    returns-7)

@@ -32,8 +32,14 @@ put-number-requires-2 c κs = search needs
 enum-told-5 : tie.Need-enum-told-5
 enum-told-5 c = search needs
 
-put-target-requires : tie.Need-put-target-requires
-put-target-requires c κs = search needs
+put-unsigned-requires : tie.Need-put-unsigned-requires
+put-unsigned-requires c κs = search needs
+
+enum-told-6 : tie.Need-enum-told-6
+enum-told-6 c = search needs
+
+put-unsigned-requires-2 : tie.Need-put-unsigned-requires-2
+put-unsigned-requires-2 c κs = search needs
 
 returns : tie.Need-returns
 returns c = search needs
@@ -64,7 +70,14 @@ same-length-4 c = search needs
 
 returns-5 : tie.Need-returns-5
 returns-5 c =
-    rw (c .before .before .before .before .enum-told5 .given .1, law.spaced-some (decimal 9 (c .before .before .before .before .before .before .before .args .v)) (texts.decimal-some 9 (c .before .before .before .before .before .before .before .args .v))) (c .before .before .put-target .ensures)
+    rw (c .before .before .before .before .enum-told5 .given .1, law.spaced-some (decimal 9 (c .before .before .before .before .before .before .before .args .v)) (texts.decimal-some 9 (c .before .before .before .before .before .before .before .args .v))) (c .before .before .put-unsigned .ensures)
+
+same-length-5 : tie.Need-same-length-5
+same-length-5 c = search needs
+
+returns-6 : tie.Need-returns-6
+returns-6 c =
+    rw (c .before .before .before .before .enum-told6 .given .1, law.spaced-some (decimal 9 (c .before .before .before .before .before .before .before .args .v)) (texts.decimal-some 9 (c .before .before .before .before .before .before .before .args .v))) (c .before .before .put-unsigned2 .ensures)
 
 pub put-operand-spec : {M : Type 1} → statement M
 put-operand-spec =
@@ -78,7 +91,9 @@ put-operand-spec =
     enum-told-4
     put-number-requires-2
     enum-told-5
-    put-target-requires
+    put-unsigned-requires
+    enum-told-6
+    put-unsigned-requires-2
     returns
     same-length
     returns-2
@@ -87,4 +102,6 @@ put-operand-spec =
     same-length-3
     returns-4
     same-length-4
-    returns-5)
+    returns-5
+    same-length-5
+    returns-6)

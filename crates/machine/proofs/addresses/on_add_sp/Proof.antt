@@ -1,7 +1,7 @@
 -- `machine::addresses::on_add_sp` meets its contract. Assumes nothing.
 use mathlib.Core.Path.{sym, ap, _∙_}
 use Rattle.machine.proofs.Reach.{add-to, add-below}
-use Rattle.machine.specs.Stages.{stacked}
+use Rattle.rules.specs.Step.{inStack}
 use Rattle.machine.specs.Plan.{planned}
 use borrow.Author.Needs.{needs}
 use Rattle.machine.proofs.addresses.on_add_sp.Statement.{statement}
@@ -23,13 +23,13 @@ returns : tie.Need-returns
 returns c m =
     let a = c .before .before .before .before .before .args in
     c .moved .ensures m
-    ∙ ap (stacked (a .r)) (sym (add-to (a .r) (a .offset) (c .before .before .to .given .0 .0) (rw (c .before .before .to .given .1) at (c .before .before .before .before .moved-by .ensures))))
+    ∙ ap (inStack (a .r)) (sym (add-to (a .r) (a .offset) (c .before .before .to .given .0 .0) (rw (c .before .before .to .given .1) at (c .before .before .before .before .moved-by .ensures))))
 
 returns-2 : tie.Need-returns-2
 unfolding planned
 returns-2 c m =
     let a = c .before .before .before .args in
-    ap (stacked (a .r)) (sym (add-below (a .r) (a .offset) (rw (c .enum-told .given .1) at (c .before .before .moved-by .ensures))))
+    ap (inStack (a .r)) (sym (add-below (a .r) (a .offset) (rw (c .enum-told .given .1) at (c .before .before .moved-by .ensures))))
 
 pub on-add-sp-spec : {M : Type 1} → statement M
 on-add-sp-spec =

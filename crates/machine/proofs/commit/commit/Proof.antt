@@ -31,12 +31,12 @@ same-length-3 : tie.Need-same-length-3
 same-length-3 c = search needs
 
 returns : tie.Need-returns
-returns c =
+returns c o =
     let at-keep = c .before .before .before .before .before in
     let start = at-keep .before .before .before .before .before .before .before in
     let a = start .args in
     let kept = at-keep .keep in
-    commit-refused (a .r) (a .e) (a .bits .now) (a .tags .now) (a .history .now) _ (kept .result) (c .before .next .given .0 .0) (c .before .next .given .1) (kept .ensures .0) (kept .ensures .1)
+    commit-refused (a .r) (a .e) (a .bits .now) (a .tags .now) (a .history .now) _ o (kept .result) (c .before .next .given .0 .0) (c .before .next .given .1) (kept .ensures .0) (kept .ensures .1)
 
 same-length-4 : tie.Need-same-length-4
 same-length-4 c = search needs
@@ -48,14 +48,14 @@ same-length-6 : tie.Need-same-length-6
 same-length-6 c = search needs
 
 returns-2 : tie.Need-returns-2
-returns-2 c =
+returns-2 c o =
     let at-next2 = c .before .before .before .before .before .before .before .before in
     let at-keep = at-next2 .before .before .before .before in
     let start = at-keep .before .before .before .before .before .before .before in
     let a = start .args in
     let kept = at-keep .keep in
     let put = c .before .before .before .before .put .ensures in
-    commit-next (a .r) (a .e) (a .bits .now) (a .tags .now) (a .history .now) _ (kept .result) (at-next2 .next2 .given .0 .0) _ _ (at-next2 .next2 .given .1) (put .0) (put .1) (kept .ensures .0) (kept .ensures .1)
+    commit-next (a .r) (a .e) (a .bits .now) (a .tags .now) (a .history .now) _ o (kept .result) (at-next2 .next2 .given .0 .0) _ _ (at-next2 .next2 .given .1) (put .0) (put .1) (kept .ensures .0) (kept .ensures .1)
 
 pub commit-spec : {M : Type 1} → statement M
 commit-spec =

@@ -183,6 +183,15 @@ on-one-requires-13 c κs = let p = c .before .before .before .pre in (p .0, p .1
 on-one-requires-14 : tie.Need-on-one-requires-14
 on-one-requires-14 c κs = let p = c .before .before .before .pre in (p .0, p .1, refl)
 
+character-cell-requires : tie.Need-character-cell-requires
+character-cell-requires c κs = tt
+
+pushed-requires-6 : tie.Need-pushed-requires-6
+pushed-requires-6 c κs = c .before .before .before .before .pre .0
+
+on-one-requires-15 : tie.Need-on-one-requires-15
+on-one-requires-15 c κs = let p = c .before .before .before .pre in (p .0, p .1, refl)
+
 on-two-requires-24 : tie.Need-on-two-requires-24
 on-two-requires-24 c κs = let p = c .before .before .before .pre in (p .0, p .1, refl)
 
@@ -354,9 +363,14 @@ returns-51 : tie.Need-returns-51
 returns-51 c = rw (c .before .match .keys51) (c .on-one14 .ensures)
 
 returns-52 : tie.Need-returns-52
-returns-52 c =
-    let start = c .before .before .before .before in
-    let start = start in rw (left-code _ (start .pre .2) (c .before .match .rest)) (c .on-two24 .ensures _)
+unfolding decide actionOf rowOf rows
+returns-52 c = let a = c .before .before .before .before .before .args in rw (c .before .before .match .keys52, c .pushed6 .ensures (cells (a .bits .now) (a .tags .now)), c .before .character-cell .ensures)
+
+returns-53 : tie.Need-returns-53
+returns-53 c = rw (c .before .match .keys53) (c .on-one15 .ensures)
+
+returns-54 : tie.Need-returns-54
+returns-54 c = let start = c .before .before .before .before in rw (left-code _ (start .pre .2) (c .before .match .rest)) (c .on-two24 .ensures _)
 
 pub by-code-spec : {M : Type 1} → statement M
 by-code-spec =
@@ -420,6 +434,9 @@ by-code-spec =
     pushed-requires-5
     on-one-requires-13
     on-one-requires-14
+    character-cell-requires
+    pushed-requires-6
+    on-one-requires-15
     on-two-requires-24
     returns
     returns-2
@@ -472,4 +489,6 @@ by-code-spec =
     returns-49
     returns-50
     returns-51
-    returns-52)
+    returns-52
+    returns-53
+    returns-54)

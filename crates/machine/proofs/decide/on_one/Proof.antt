@@ -5,7 +5,7 @@ use borrow.Author.Tests.{le-leb}
 use Rattle.rules.specs.Cells.{cells, cellAt}
 use Rattle.rules.specs.Instructions.{rows, rowOf, actionOf}
 use Rattle.rules.specs.Decide.{decide}
-use Rattle.machine.specs.Stages.{stacked}
+use Rattle.rules.specs.Step.{inStack}
 use Rattle.machine.specs.Plan.{planned}
 use Rattle.machine.proofs.Values.{left-single, single-few}
 use borrow.Author.Needs.{needs}
@@ -18,7 +18,7 @@ returns c =
     let start = c .before .before .before .before in
     let a = start .args in
     let m = cells (a .bits .now) (a .tags .now) in
-    ap (stacked (a .r))
+    ap (inStack (a .r))
     (sym (single-few (a .r) m (a .n) (cellAt m (record { 0 = a .r .sp - 2 })) (cellAt m (record { 0 = a .r .sp - 1 })) (c .if1 .taken) (a .code) (start .pre .2)))
 
 top-requires : tie.Need-top-requires
@@ -74,6 +74,9 @@ on-to-float-requires c κs = (c .before .before .before .before .before .before 
 
 on-to-int-requires : tie.Need-on-to-int-requires
 on-to-int-requires c κs = (c .before .before .before .before .before .before .pre .0, c .before .before .if1 .left)
+
+on-write-ch-requires : tie.Need-on-write-ch-requires
+on-write-ch-requires c κs = (c .before .before .before .before .before .before .pre .0, c .before .before .if1 .left)
 
 pushed-requires : tie.Need-pushed-requires
 pushed-requires c κs = c .before .before .before .before .before .before .pre .0
@@ -132,7 +135,11 @@ returns-14 c = let a = c .before .before .before .before .before .before .before
 
 returns-15 : tie.Need-returns-15
 unfolding decide actionOf rowOf rows
-returns-15 c =
+returns-15 c = let a = c .before .before .before .before .before .before .before .args in rw (c .before .match .keys14, c .on-write-ch .ensures (cells (a .bits .now) (a .tags .now)), c .before .before .top .ensures)
+
+returns-16 : tie.Need-returns-16
+unfolding decide actionOf rowOf rows
+returns-16 c =
     let start = c .before .before .before .before .before .before .before in
     let a = start .args in
     rw (left-single _ (start .pre .2) (c .before .match .rest), c .pushed .ensures (cells (a .bits .now) (a .tags .now)), le-leb _ _ (c .before .before .before .if1 .left), c .before .before .top .ensures)
@@ -160,6 +167,7 @@ on-one-spec =
     on-jsr-ind-requires
     on-to-float-requires
     on-to-int-requires
+    on-write-ch-requires
     pushed-requires
     returns-2
     returns-3
@@ -174,4 +182,5 @@ on-one-spec =
     returns-12
     returns-13
     returns-14
-    returns-15)
+    returns-15
+    returns-16)

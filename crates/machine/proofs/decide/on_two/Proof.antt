@@ -3,7 +3,7 @@ use Prim.Native.Nat.{_-_}
 use mathlib.Core.Path.{sym, ap, _∙_}
 use Rattle.rules.specs.Cells.{cells, cellAt}
 use Rattle.rules.specs.Decide.{decide}
-use Rattle.machine.specs.Stages.{stacked}
+use Rattle.rules.specs.Step.{inStack}
 use Rattle.machine.specs.Plan.{planned}
 use Rattle.machine.proofs.Values.{pair-few}
 use borrow.Author.Needs.{needs}
@@ -16,7 +16,7 @@ returns c n =
     let start = c .before .before .before .before in
     let a = start .args in
     let m = cells (a .bits .now) (a .tags .now) in
-    ap (stacked (a .r))
+    ap (inStack (a .r))
     (sym (pair-few (a .r) m n (cellAt m (record { 0 = a .r .sp - 2 })) (cellAt m (record { 0 = a .r .sp - 1 })) (c .if1 .taken) (a .code) (start .pre .2)))
 
 second-requires : tie.Need-second-requires

@@ -1,11 +1,11 @@
 -- `machine::run::run` meets its contract: 11, then 10, then the turns from a sound state. Assumes nothing.
 use Prim.Native.Nat.{zero-le}
 use mathlib.Core.Path.{sym, _∙_}
-use borrow.Author.Needs.{needs}
 use borrow.Author.Tests.{le-leb, lt-leb, not-true, not-false}
 use Rattle.rules.specs.Table.{program}
 use Rattle.rules.specs.State.{memory}
 use Rattle.rules.proofs.Runs.{run-long, run-broken, run-enter, both}
+use borrow.Author.Needs.{needs}
 use Rattle.machine.proofs.run.run.Statement.{statement}
 use Rattle.machine.proofs.run.run.Tie as tie
 
@@ -14,8 +14,11 @@ ended-requires c κs = search needs
 
 returns : tie.Need-returns
 returns c =
-    let a = c .before .before .before .before .before .before .args in
-    let e = both (sym (run-long (program (a .table .now) (a .length)) (a .limit) (a .r) (memory (a .bits .now) (a .tags .now) (a .history .now)) (lt-leb _ _ (c .before .if1 .taken)))) in
+    let start = c .before .before .before .before .before .before .before in
+    let a = start .args in
+    let p = program (a .table .now) (a .length) in
+    let m = memory (a .bits .now) (a .tags .now) (a .history .now) (a .output .now) in
+    let e = both (sym (run-long p (a .limit) (a .r) m (lt-leb _ _ (c .before .if1 .taken)))) in
     rw (c .ended .ensures) (e .0, (e .1, zero-le))
 
 is-sound-requires : tie.Need-is-sound-requires
@@ -33,18 +36,25 @@ same-length-2 c = search needs
 same-length-3 : tie.Need-same-length-3
 same-length-3 c = search needs
 
+same-length-4 : tie.Need-same-length-4
+same-length-4 c = search needs
+
 returns-2 : tie.Need-returns-2
 returns-2 c =
-    let a = c .before .before .before .before .before .before .before .before .before .before .before .args in
-    let e = both (sym (run-broken (program (a .table .now) (a .length)) (a .limit) (a .r) (memory (a .bits .now) (a .tags .now) (a .history .now)) (le-leb _ _ (c .before .before .before .before .before .before .if1 .left)) (sym (c .before .before .is-sound .ensures) ∙ not-true _ (c .before .if2 .taken)))) in
+    let at-if1 = c .before .before .before .before .before .before .before in
+    let start = at-if1 .before .before .before .before .before .before in
+    let a = start .args in
+    let p = program (a .table .now) (a .length) in
+    let m = memory (a .bits .now) (a .tags .now) (a .history .now) (a .output .now) in
+    let e = both (sym (run-broken p (a .limit) (a .r) m (le-leb _ _ (at-if1 .if1 .left)) (sym (c .before .before .is-sound .ensures) ∙ not-true _ (c .before .if2 .taken)))) in
     rw (c .ended2 .ensures) (e .0, (e .1, zero-le))
 
 run-from-requires : tie.Need-run-from-requires
 run-from-requires c κs =
-    (sym (c .before .before .before .before .is-sound .ensures) ∙ not-false _ (c .before .before .before .if2 .left), c .before .before .before .before .before .before .before .before .if1 .left)
-
-same-length-4 : tie.Need-same-length-4
-same-length-4 c = search needs
+    let at-if2 = c .before .before .before .before in
+    let at-is-sound = at-if2 .before in
+    let at-if1 = at-is-sound .before .before .before .before .before in
+    (sym (at-is-sound .is-sound .ensures) ∙ not-false _ (at-if2 .if2 .left), at-if1 .if1 .left)
 
 same-length-5 : tie.Need-same-length-5
 same-length-5 c = search needs
@@ -52,14 +62,24 @@ same-length-5 c = search needs
 same-length-6 : tie.Need-same-length-6
 same-length-6 c = search needs
 
+same-length-7 : tie.Need-same-length-7
+same-length-7 c = search needs
+
+same-length-8 : tie.Need-same-length-8
+same-length-8 c = search needs
+
 returns-3 : tie.Need-returns-3
 returns-3 c =
-    let a = c .before .before .before .before .before .before .before .before .before .before .before .before .before .before .before .before .before .before .before .before .args in
-    let done = c .before .before .before .before .before .before .run-from .ensures in
-    let e =
-    both
-    (done .0
-    ∙ sym (run-enter (program (a .table .now) (a .length)) (a .limit) (a .r) (memory (a .bits .now) (a .tags .now) (a .history .now)) (le-leb _ _ (c .before .before .before .before .before .before .before .before .before .before .before .before .before .before .before .if1 .left)) (sym (c .before .before .before .before .before .before .before .before .before .before .before .is-sound .ensures) ∙ not-false _ (c .before .before .before .before .before .before .before .before .before .before .if2 .left)))) in
+    let at-run-from = c .before .before .before .before .before .before .before .before in
+    let at-if2 = at-run-from .before .before .before .before .before in
+    let at-is-sound = at-if2 .before in
+    let at-if1 = at-is-sound .before .before .before .before .before in
+    let start = at-if1 .before .before .before .before .before .before in
+    let a = start .args in
+    let p = program (a .table .now) (a .length) in
+    let m = memory (a .bits .now) (a .tags .now) (a .history .now) (a .output .now) in
+    let done = at-run-from .run-from .ensures in
+    let e = both (done .0 ∙ sym (run-enter p (a .limit) (a .r) m (le-leb _ _ (at-if1 .if1 .left)) (sym (at-is-sound .is-sound .ensures) ∙ not-false _ (at-if2 .if2 .left)))) in
     (e .0, (e .1, done .1))
 
 pub run-spec : {M : Type 1} → statement M
@@ -73,9 +93,11 @@ run-spec =
     same-length
     same-length-2
     same-length-3
+    same-length-4
     returns-2
     run-from-requires
-    same-length-4
     same-length-5
     same-length-6
+    same-length-7
+    same-length-8
     returns-3)

@@ -22,6 +22,9 @@ returns c = simp (c .before .enum-told4 .given .1, le-leb _ _ (c .if1 .taken))
 enum-told-5 : tie.Need-enum-told-5
 enum-told-5 c = search needs
 
+enum-told-6 : tie.Need-enum-told-6
+enum-told-6 c = search needs
+
 returns-2 : tie.Need-returns-2
 returns-2 c = simp (c .enum-told .given .1)
 
@@ -37,6 +40,9 @@ returns-5 c = simp (c .before .enum-told4 .given .1, lt-leb _ _ (c .if1 .left))
 returns-6 : tie.Need-returns-6
 returns-6 c = simp (c .enum-told5 .given .1)
 
+returns-7 : tie.Need-returns-7
+returns-7 c = simp (c .enum-told6 .given .1)
+
 pub is-within-spec : {M : Type 1} → statement M
 is-within-spec =
     tie.close
@@ -47,8 +53,10 @@ is-within-spec =
     enum-told-4
     returns
     enum-told-5
+    enum-told-6
     returns-2
     returns-3
     returns-4
     returns-5
-    returns-6)
+    returns-6
+    returns-7)

@@ -1,4 +1,4 @@
--- Nine codes have an operand, and by the table's rule no other has. Assumes nothing.
+-- Ten codes have an operand, and by the table's rule no other has. Assumes nothing.
 use mathlib.Core.Path.{sym, ap}
 use Rattle.rules.specs.Instructions.{rows, rowOf, kindOf}
 use Rattle.program.proofs.OperandCodes.{bare-elsewhere}
@@ -42,7 +42,11 @@ unfolding kindOf rowOf rows
 returns-9 c = sym (ap kindOf (c .match .keys9))
 
 returns-10 : tie.Need-returns-10
-returns-10 c = sym (bare-elsewhere _ (c .match .rest))
+unfolding kindOf rowOf rows
+returns-10 c = sym (ap kindOf (c .match .keys10))
+
+returns-11 : tie.Need-returns-11
+returns-11 c = sym (bare-elsewhere _ (c .match .rest))
 
 pub kind-of-spec : {M : Type 1} → statement M
 kind-of-spec =
@@ -57,4 +61,5 @@ kind-of-spec =
     returns-7
     returns-8
     returns-9
-    returns-10)
+    returns-10
+    returns-11)

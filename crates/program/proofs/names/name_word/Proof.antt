@@ -68,4 +68,6 @@ name-word-spec =
     (λ c. arm (c .match .keys50))
     (λ c. arm (c .match .keys51))
     (λ c. arm (c .match .keys52))
+    (λ c. arm (c .match .keys53))
+    (λ c. arm (c .match .keys54))
     (λ c. sym (word-past _ (none-below codes _ (c .match .rest)))))

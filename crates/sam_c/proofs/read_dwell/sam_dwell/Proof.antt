@@ -1,6 +1,5 @@
 -- `sam_dwell` meets its contract: what the dwell reader answers, and the tenths told. Assumes nothing.
 use mathlib.Core.Path.{sym, ap, _∙_}
-use borrow.Author.Needs.{needs}
 use Rattle.rules.specs.Table.{program}
 use Rattle.rules.specs.State.{memory}
 use Rattle.rules.specs.Dwell.{dwell}
@@ -8,11 +7,15 @@ use Rattle.rules.specs.declared.Registers.{Registers}
 use Rattle.sam_c.specs.Calls.{answered, broken, registerCount}
 use Rattle.sam_c.proofs.Lent.{of-length, of-another}
 use Rattle.sam_c.proofs.Called.{dwell-called}
+use borrow.Author.Needs.{needs}
 use Rattle.sam_c.proofs.read_dwell.sam_dwell.Statement.{statement}
 use Rattle.sam_c.proofs.read_dwell.sam_dwell.Tie as tie
 
 returns : tie.Need-returns
-returns c = sym (of-another 1 (c .before .before .before .before .before .before .before .args .told .now) _ _ (c .if1 .taken))
+returns c =
+    let start = c .before .before .before .before .before .before .before .before in
+    let a = start .args in
+    sym (of-another 1 (a .told .now) _ _ (c .if1 .taken))
 
 tell-requires : tie.Need-tell-requires
 tell-requires c κs = search needs
@@ -22,10 +25,13 @@ same-length c = search needs
 
 returns-2 : tie.Need-returns-2
 returns-2 c =
-    let a = c .before .before .before .before .before .before .before .before .before .before .before .before .args in
+    let at-if2 = c .before .before .before .before in
+    let at-if1 = at-if2 .before in
+    let start = at-if1 .before .before .before .before .before .before .before .before in
+    let a = start .args in
     ap (answered broken) (c .before .before .tell .ensures)
-    ∙ sym (of-another registerCount (a .registers .now) _ _ (c .before .before .before .before .if2 .taken))
-    ∙ sym (of-length 1 (a .told .now) _ _ (c .before .before .before .before .before .if1 .left))
+    ∙ sym (of-another registerCount (a .registers .now) _ _ (at-if2 .if2 .taken))
+    ∙ sym (of-length 1 (a .told .now) _ _ (at-if1 .if1 .left))
 
 read-requires : tie.Need-read-requires
 read-requires c κs = search needs
@@ -47,13 +53,20 @@ same-length-2 c = search needs
 
 returns-3 : tie.Need-returns-3
 returns-3 c =
-    let a = c .before .before .before .before .before .before .before .before .before .before .before .before .before .before .before .before .args in
-    dwell-called (a .told .now) (c .before .before .before .before .before .before .before .before .before .if1 .left) (a .registers .now) (c .before .before .before .before .before .before .before .before .if2 .left) _ _
-    (λ (r : Registers). dwell (program (a .table .now) (a .length)) r (memory (a .bits .now) (a .tags .now) (a .history .now)))
-    (c .before .before .before .before .before .before .before .read .ensures)
-    (c .before .before .before .before .before .before .dwell .ensures)
-    (c .before .before .before .tell2 .ensures)
-    (c .before .before .before .before .dwell-tenths .ensures)
+    let at-tell2 = c .before .before .before in
+    let at-dwell-tenths = at-tell2 .before in
+    let at-dwell = at-dwell-tenths .before .before in
+    let at-read = at-dwell .before in
+    let at-if2 = at-read .before in
+    let at-if1 = at-if2 .before in
+    let start = at-if1 .before .before .before .before .before .before .before .before in
+    let a = start .args in
+    dwell-called (a .told .now) (at-if1 .if1 .left) (a .registers .now) (at-if2 .if2 .left) _ _
+    (λ (r : Registers). dwell (program (a .table .now) (a .length)) r (memory (a .bits .now) (a .tags .now) (a .history .now) (a .output .now)))
+    (at-read .read .ensures)
+    (at-dwell .dwell .ensures)
+    (at-tell2 .tell2 .ensures)
+    (at-dwell-tenths .dwell-tenths .ensures)
     (c .dwell-number .ensures)
 
 pub sam-dwell-spec : {M : Type 1} → statement M

@@ -30,6 +30,9 @@ slice-write-registers-7 c = simp length-set (omega arith)
 slice-write-registers-8 : tie.Need-slice-write-registers-8
 slice-write-registers-8 c = simp length-set (omega arith)
 
+slice-write-registers-9 : tie.Need-slice-write-registers-9
+slice-write-registers-9 c = simp length-set (omega arith)
+
 same-length : tie.Need-same-length
 same-length c = search needs
 
@@ -48,5 +51,6 @@ write-spec =
     slice-write-registers-6
     slice-write-registers-7
     slice-write-registers-8
+    slice-write-registers-9
     same-length
     returns)

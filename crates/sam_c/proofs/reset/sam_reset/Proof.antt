@@ -1,11 +1,11 @@
 -- `sam_reset` meets its contract: what the reset answers and leaves. Assumes nothing.
 use Prim.Native.Nat.{ℕ}
 use mathlib.Core.Path.{sym, ap, _∙_}
-use borrow.Author.Needs.{needs}
 use Rattle.rules.specs.State.{memory}
 use Rattle.sam_c.specs.Calls.{moved, notRegisters, registerCount}
 use Rattle.sam_c.proofs.Lent.{of-another}
 use Rattle.sam_c.proofs.Called.{reset-called}
+use borrow.Author.Needs.{needs}
 use Rattle.sam_c.proofs.reset.sam_reset.Statement.{statement}
 use Rattle.sam_c.proofs.reset.sam_reset.Tie as tie
 
@@ -17,8 +17,9 @@ refused-requires c κs = search needs
 
 returns : tie.Need-returns
 returns c =
-    let a = c .before .before .before .before .before .before .before .before .args in
-    ap (λ (k : ℕ). moved k (a .registers .now) (memory (a .bits .now) (a .tags .now) (a .history .now)))
+    let start = c .before .before .before .before .before .before .before .before .before in
+    let a = start .args in
+    ap (λ (k : ℕ). moved k (a .registers .now) (memory (a .bits .now) (a .tags .now) (a .history .now) (a .output .now)))
     (c .refused .ensures ∙ ap notRegisters (c .before .has-start-sizes .ensures))
     ∙ sym (of-another registerCount (a .registers .now) _ _ (c .before .before .if1 .taken))
 
@@ -43,12 +44,15 @@ same-length-3 c = search needs
 same-length-4 : tie.Need-same-length-4
 same-length-4 c = search needs
 
+same-length-5 : tie.Need-same-length-5
+same-length-5 c = search needs
+
 returns-2 : tie.Need-returns-2
 returns-2 c =
     let at-write = c .before .before .before in
-    let at-reset = at-write .before .before .before .before .before .before .before .before .before in
-    let at-if1 = at-reset .before .before .before .before in
-    let start = at-if1 .before .before .before .before .before .before in
+    let at-reset = at-write .before .before .before .before .before .before .before .before .before .before .before in
+    let at-if1 = at-reset .before .before .before .before .before in
+    let start = at-if1 .before .before .before .before .before .before .before in
     reset-called (start .args .registers .now) (at-if1 .if1 .left) _
     (at-reset .reset .ensures)
     (at-write .write .ensures)
@@ -68,4 +72,5 @@ sam-reset-spec =
     same-length-2
     same-length-3
     same-length-4
+    same-length-5
     returns-2)

@@ -1,6 +1,5 @@
 -- `sam_run` meets its contract: what the run answers and leaves, and the steps told. Assumes nothing.
 use mathlib.Core.Path.{sym, _∙_}
-use borrow.Author.Needs.{needs}
 use Rattle.rules.specs.Table.{program}
 use Rattle.rules.specs.State.{memory}
 use Rattle.rules.specs.Run.{run}
@@ -8,11 +7,15 @@ use Rattle.rules.specs.declared.Registers.{Registers}
 use Rattle.sam_c.specs.Calls.{walked, registerCount}
 use Rattle.sam_c.proofs.Lent.{of-length, of-another}
 use Rattle.sam_c.proofs.Called.{run-called}
+use borrow.Author.Needs.{needs}
 use Rattle.sam_c.proofs.run.sam_run.Statement.{statement}
 use Rattle.sam_c.proofs.run.sam_run.Tie as tie
 
 returns : tie.Need-returns
-returns c = sym (of-another 1 (c .before .before .before .before .before .before .before .args .told .now) _ _ (c .if1 .taken))
+returns c =
+    let start = c .before .before .before .before .before .before .before .before in
+    let a = start .args in
+    sym (of-another 1 (a .told .now) _ _ (c .if1 .taken))
 
 tell-requires : tie.Need-tell-requires
 tell-requires c κs = search needs
@@ -28,9 +31,9 @@ returns-2 c =
     let at-tell = c .before .before .before in
     let at-if2 = at-tell .before .before in
     let at-if1 = at-if2 .before in
-    let start = at-if1 .before .before .before .before .before .before .before in
+    let start = at-if1 .before .before .before .before .before .before .before .before in
     let a = start .args in
-    (λ i. walked ((at-tell .tell .ensures) i) ((c .refused .ensures) i) (a .registers .now) (memory (a .bits .now) (a .tags .now) (a .history .now)))
+    (λ i. walked ((at-tell .tell .ensures) i) ((c .refused .ensures) i) (a .registers .now) (memory (a .bits .now) (a .tags .now) (a .history .now) (a .output .now)))
     ∙ sym (of-another registerCount (a .registers .now) _ _ (at-if2 .if2 .taken))
     ∙ sym (of-length 1 (a .told .now) _ _ (at-if1 .if1 .left))
 
@@ -64,18 +67,21 @@ same-length-5 c = search needs
 same-length-6 : tie.Need-same-length-6
 same-length-6 c = search needs
 
+same-length-7 : tie.Need-same-length-7
+same-length-7 c = search needs
+
 returns-3 : tie.Need-returns-3
 returns-3 c =
     let at-tell2 = c .before .before .before in
     let at-write = at-tell2 .before .before .before .before in
-    let at-run = at-write .before .before .before .before .before .before .before .before .before in
-    let at-read = at-run .before .before .before .before in
+    let at-run = at-write .before .before .before .before .before .before .before .before .before .before .before in
+    let at-read = at-run .before .before .before .before .before in
     let at-if2 = at-read .before .before in
     let at-if1 = at-if2 .before in
-    let start = at-if1 .before .before .before .before .before .before .before in
+    let start = at-if1 .before .before .before .before .before .before .before .before in
     let a = start .args in
     run-called (a .told .now) (at-if1 .if1 .left) (a .registers .now) (at-if2 .if2 .left) _ _
-    (λ (r : Registers). run (program (a .table .now) (a .length)) (a .limit) r (memory (a .bits .now) (a .tags .now) (a .history .now)))
+    (λ (r : Registers). run (program (a .table .now) (a .length)) (a .limit) r (memory (a .bits .now) (a .tags .now) (a .history .now) (a .output .now)))
     (at-read .read .ensures)
     (at-run .run .ensures .0)
     (at-run .run .ensures .1 .0)
@@ -102,4 +108,5 @@ sam-run-spec =
     same-length-4
     same-length-5
     same-length-6
+    same-length-7
     returns-3)

@@ -1,6 +1,5 @@
 -- `sam_step_back` meets its contract: what the step-back answers and leaves, and the registers after it. Assumes nothing.
 use mathlib.Core.Path.{sym}
-use borrow.Author.Needs.{needs}
 use Rattle.rules.specs.Table.{program}
 use Rattle.rules.specs.State.{memory}
 use Rattle.rules.specs.Back.{back}
@@ -8,11 +7,15 @@ use Rattle.rules.specs.declared.Registers.{Registers}
 use Rattle.sam_c.specs.Calls.{registerCount}
 use Rattle.sam_c.proofs.Lent.{of-another}
 use Rattle.sam_c.proofs.Called.{step-called}
+use borrow.Author.Needs.{needs}
 use Rattle.sam_c.proofs.step_back.sam_step_back.Statement.{statement}
 use Rattle.sam_c.proofs.step_back.sam_step_back.Tie as tie
 
 returns : tie.Need-returns
-returns c = sym (of-another registerCount (c .before .before .before .before .before .before .args .registers .now) _ _ (c .if1 .taken))
+returns c =
+    let start = c .before .before .before .before .before .before .before in
+    let a = start .args in
+    sym (of-another registerCount (a .registers .now) _ _ (c .if1 .taken))
 
 read-requires : tie.Need-read-requires
 read-requires c κs = search needs
@@ -41,15 +44,24 @@ same-length-3 c = search needs
 same-length-4 : tie.Need-same-length-4
 same-length-4 c = search needs
 
+same-length-5 : tie.Need-same-length-5
+same-length-5 c = search needs
+
 returns-2 : tie.Need-returns-2
 returns-2 c =
-    let a = c .before .before .before .before .before .before .before .before .before .before .before .before .before .before .before .before .before .before .before .before .before .before .before .before .args in
-    step-called (a .registers .now) (c .before .before .before .before .before .before .before .before .before .before .before .before .before .before .before .before .before .before .if1 .left) _
-    (λ (r : Registers). back (program (a .table .now) (a .length)) r (memory (a .bits .now) (a .tags .now) (a .history .now)))
-    (c .before .before .before .before .before .before .before .before .before .before .before .before .before .before .before .before .read .ensures)
-    (c .before .before .before .before .before .before .before .before .before .before .before .before .step-back .ensures)
-    (c .before .before .before .before .after .ensures)
-    (c .before .before .before .write .ensures)
+    let at-write = c .before .before .before in
+    let at-after = at-write .before in
+    let at-step-back = at-after .before .before .before .before .before .before .before .before .before .before in
+    let at-read = at-step-back .before .before .before .before .before in
+    let at-if1 = at-read .before .before in
+    let start = at-if1 .before .before .before .before .before .before .before in
+    let a = start .args in
+    step-called (a .registers .now) (at-if1 .if1 .left) _
+    (λ (r : Registers). back (program (a .table .now) (a .length)) r (memory (a .bits .now) (a .tags .now) (a .history .now) (a .output .now)))
+    (at-read .read .ensures)
+    (at-step-back .step-back .ensures)
+    (at-after .after .ensures)
+    (at-write .write .ensures)
     (c .step-number .ensures)
 
 pub sam-step-back-spec : {M : Type 1} → statement M
@@ -66,4 +78,5 @@ sam-step-back-spec =
     same-length-2
     same-length-3
     same-length-4
+    same-length-5
     returns-2)

@@ -1,11 +1,11 @@
--- `put_target` meets its contract: a space in front of a target. Assumes nothing.
+-- `put_unsigned` meets its contract: a space in front of the digits. Assumes nothing.
 use mathlib.Core.Path.{refl}
 use native.Mathlib.Omega.{arith}
 use borrow.Author.Needs.{needs}
 use Rattle.rules.proofs.Texts as texts
 use Rattle.digits.proofs.Laws.{put-front}
-use Rattle.lister.proofs.line.put_target.Statement.{statement}
-use Rattle.lister.proofs.line.put_target.Tie as tie
+use Rattle.lister.proofs.line.put_unsigned.Statement.{statement}
+use Rattle.lister.proofs.line.put_unsigned.Tie as tie
 
 put-byte-requires : tie.Need-put-byte-requires
 put-byte-requires c κs = search needs
@@ -27,8 +27,8 @@ returns : tie.Need-returns
 returns c =
     put-front (c .before .before .before .before .before .before .put-byte .ensures) (c .before .before .put-decimal .ensures) (omega arith) refl
 
-pub put-target-spec : {M : Type 1} → statement M
-put-target-spec =
+pub put-unsigned-spec : {M : Type 1} → statement M
+put-unsigned-spec =
     tie.close
     (tie.spec
     put-byte-requires

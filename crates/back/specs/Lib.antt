@@ -1,0 +1,2 @@
+-- What a record leans on that is taken back.
+pub mod Undoable
