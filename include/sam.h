@@ -80,9 +80,9 @@ enum {
     SAM_DWELL_STACK = 512
 };
 
-/* The registers are a lent slice of nine. Registers of another length are a 10 in 10's place, so after 11 at a reset and
- * a run, and stay as they are. SAM_KEPT is how many steps can be taken back: after a reset the steps accepted less the
- * step-backs accepted, and 0 where H is 0. SAM_WRITTEN is how many bytes of the output are in use, from the first. */
+/* The registers are a lent slice of nine. Registers of another length are a 10 in 10's place, so after 11 at a reset
+ * and a run, and stay as they are. SAM_KEPT is how many steps can be taken back: after a reset the steps accepted less
+ * the step-backs accepted, and 0 where H is 0. SAM_WRITTEN is how many bytes of the output are written. */
 enum { SAM_N, SAM_H_PLACES, SAM_PC, SAM_SP, SAM_FBR, SAM_HALT, SAM_U, SAM_KEPT, SAM_WRITTEN, SAM_REGISTERS };
 
 /* The tag of a cell. A CH is a character code, 0 to 127. */

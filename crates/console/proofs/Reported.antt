@@ -10,7 +10,7 @@ use Rattle.rules.specs.Lists.{text}
 use Rattle.rules.specs.Sizes.{maxCells, maxOutput}
 use Rattle.rules.specs.Listing.{decimal}
 use Rattle.rules.specs.Numbers.{numberOfEnding}
-use Rattle.rules.specs.State.{Memory, memory}
+use Rattle.rules.specs.Cells.{cells}
 use Rattle.rules.specs.Run.{Ran}
 use Rattle.rules.specs.Console.{line, cellLine, cellLines, outLine, report, refusedLine}
 use Rattle.rules.specs.declared.Position.{Position}
@@ -18,35 +18,30 @@ use Rattle.rules.proofs.Texts.{length-decimal}
 use Rattle.console.proofs.Writing.{line-four, line-five, line-six, cell-short}
 use Rattle.console.proofs.OutLine.{out-short}
 
--- ---- the live cells, one more at a time: history and output have no part in them
-
-cells-bare : (m : Memory) (k i : ℕ) → cellLines m i k ≡ cellLines (memory (m .cells .bits) (m .cells .tags) [] []) i k
-unfolding cellLines
-cells-bare m zero i = refl
-cells-bare m (suc k) i = rw (cells-bare m k (i + 1))
+-- ---- the live cells, one more at a time
 
 module _ (b t : List ℕ) where
   cellText : ℕ → List ℕ
   cellText i = cellLine i (record { bits = getD b i 0; tag = getD t i 0 })
 
-  lines-more : (k i : ℕ) → cellLines (memory b t [] []) i (suc k) ≡ cellLines (memory b t [] []) i k ++ cellText (i + k)
+  lines-more : (k i : ℕ) → cellLines (cells b t) i (suc k) ≡ cellLines (cells b t) i k ++ cellText (i + k)
   unfolding cellLines cellText
   lines-more zero i = rw add-zero (append-nil (cellText i))
   lines-more (suc k) i =
       let q : i + 1 + k ≡ i + suc k = omega arith in
       ap (λ (l : List ℕ). cellText i ++ l) (rw q at (lines-more k (i + 1)))
-      ∙ sym (append-assoc (cellText i) (cellLines (memory b t [] []) (i + 1) k) (cellText (i + suc k)))
+      ∙ sym (append-assoc (cellText i) (cellLines (cells b t) (i + 1) k) (cellText (i + suc k)))
 
-  pub cells-none : cellLines (memory b t [] []) 0 0 ≡ []
+  pub cells-none : cellLines (cells b t) 0 0 ≡ []
   unfolding cellLines
   cells-none = refl
 
   pub cells-next : (i : ℕ)
-      → cellLines (memory b t [] []) 0 (i + 1) ≡ cellLines (memory b t [] []) 0 i ++ cellLine i (record { bits = getD b i 0; tag = getD t i 0 })
+      → cellLines (cells b t) 0 (i + 1) ≡ cellLines (cells b t) 0 i ++ cellLine i (record { bits = getD b i 0; tag = getD t i 0 })
   unfolding cellText
   cells-next i = rw add-one (rw zero-add at (lines-more i 0))
 
-  cells-short : (k i : ℕ) → length (cellLines (memory b t [] []) i k) ≤ 29 * k
+  cells-short : (k i : ℕ) → length (cellLines (cells b t) i k) ≤ 29 * k
   unfolding cellLines
   cells-short zero i = omega arith
   cells-short (suc k) i =
@@ -77,16 +72,16 @@ refused-short n p =
 pub report-parts : (a : Ran) → report a
     ≡ ((line (text "end" ∷ decimal 9 (numberOfEnding (a .answer .ending)) ∷ text "steps" ∷ decimal 9 (a .answer .steps) ∷ [])
     ++ line (text "PC" ∷ decimal 9 (a .answer .registers .pc) ∷ text "SP" ∷ decimal 9 (a .answer .registers .sp) ∷ text "FBR" ∷ decimal 9 (a .answer .registers .fbr) ∷ []))
-    ++ cellLines (memory (a .memory .cells .bits) (a .memory .cells .tags) [] []) 0 (a .answer .registers .sp))
+    ++ cellLines (a .memory .cells) 0 (a .answer .registers .sp))
     ++ outLine (take (a .answer .registers .written) (a .memory .output))
 unfolding report
-report-parts a = rw (cells-bare (a .memory) (a .answer .registers .sp) 0) (simp append-assoc)
+report-parts a = simp append-assoc
 
 pub report-short : (a : Ran) → a .answer .registers .sp < maxCells → a .answer .registers .written ≤ maxOutput → length (report a) ≤ 32768
 report-short a below within =
     let r = a .answer .registers in
     let o = a .memory .output in
     let ending = ending-short (numberOfEnding (a .answer .ending)) (a .answer .steps) in
-    let cells = cells-short (a .memory .cells .bits) (a .memory .cells .tags) (r .sp) 0 in
+    let lines = cells-short (a .memory .cells .bits) (a .memory .cells .tags) (r .sp) 0 in
     rw (report-parts a, length-append, length-append, length-append)
-    (omega (arith, ending, registers-short (r .pc) (r .sp) (r .fbr), cells, out-short (take (r .written) o), length-take (r .written) o))
+    (omega (arith, ending, registers-short (r .pc) (r .sp) (r .fbr), lines, out-short (take (r .written) o), length-take (r .written) o))

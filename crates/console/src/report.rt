@@ -12,6 +12,7 @@ ghost use Prim.Native.Nat.{_*_, _≤_, _<_};
 ghost use lib.ListN.{length};
 ghost use Rattle.rules.specs.Sizes.{maxOutput};
 ghost use Rattle.rules.specs.Table.{program};
+ghost use Rattle.rules.specs.Cells.{cells};
 ghost use Rattle.rules.specs.State.{memory};
 ghost use Rattle.rules.specs.Console.{cellLines, report, consoleCells, consoleRun};
 ghost use Rattle.digits.specs.Put.{Put};
@@ -26,7 +27,7 @@ const LIMIT: usize = 100_000;
 // Writes the lines of the first `sp` cells.
 fn put_cells(out: &mut [u8], at: usize, sp: usize, bits: &[u32], tags: &[u8]) -> usize
     requires { ⌜ (at ≤ 128) × (sp < consoleCells) × (length (now bits) ≡ consoleCells) × (length (now tags) ≡ consoleCells) ⌝ }
-    ensures { λ r. ⌜ Put (now (out .entry)) (now (out .exit)) at (cellLines (memory (now (bits .entry)) (now (tags .entry)) [] []) 0 sp) r × (r ≤ 29 * sp) ⌝ }
+    ensures { λ r. ⌜ Put (now (out .entry)) (now (out .exit)) at (cellLines (cells (now (bits .entry)) (now (tags .entry))) 0 sp) r × (r ≤ 29 * sp) ⌝ }
 {
     let mut told = 0;
     let mut i = 0;

@@ -115,7 +115,8 @@ fn on_one(code: usize, n: u32, r: Registers, bits: &[u32], tags: &[u8]) -> Plan
     }
 }
 
-// A code with its operand: an arm for each, which hands its own number on to `on_one` or `on_two`, whose `match` is then no second dispatch.
+// A code with its operand: an arm for each, which hands its own number on to `on_one` or `on_two`, whose `match` is then no second dispatch. What is left for
+// the last arm is ADD.
 fn by_code(code: usize, n: u32, r: Registers, bits: &[u32], tags: &[u8]) -> Plan
     requires { ⌜ Small r × Live r (now bits) (now tags) × (code < codes) ⌝ }
     ensures { λ d. ⌜ planned r (cells (now (bits .entry)) (now (tags .entry))) d ≡ inStack r (decide r (cells (now (bits .entry)) (now (tags .entry))) n (actionOf code)) ⌝ }
@@ -174,7 +175,6 @@ fn by_code(code: usize, n: u32, r: Registers, bits: &[u32], tags: &[u8]) -> Plan
         codes::FTOI => on_one(codes::FTOI, n, r, bits, tags),
         codes::PUSHIMMCH => plans::pushed(r, cells::character_cell(n)),
         codes::WRITECH => on_one(codes::WRITECH, n, r, bits, tags),
-        // what is left is ADD
         _ => on_two(codes::ADD, r, bits, tags),
     }
 }

@@ -1,11 +1,10 @@
 -- `put_cells` meets its contract. The loop: the lines of the cells passed are written, at most 29 bytes each. Assumes nothing.
 use Prim.Native.Nat.{_≤_, _-_, _*_}
 use mathlib.Core.Path.{_≡_, refl, _∙_}
-use mathlib.Core.List.{[]}
 use native.Mathlib.Omega.{arith}
 use lib.ListN.{length, getD}
 use borrow.Author.Needs.{needs}
-use Rattle.rules.specs.State.{memory}
+use Rattle.rules.specs.Cells.{cells}
 use Rattle.rules.specs.Console.{cellLines}
 use Rattle.digits.specs.Put.{Put}
 use Rattle.digits.proofs.Laws.{put-append}
@@ -16,7 +15,7 @@ use Rattle.console.proofs.report.put_cells.Tie as tie
 
 abbrev Inv-loop : tie.InvT-loop
 Inv-loop out₀ at sp bits tags told₀ i₀ out told i =
-    (i ≤ sp) × (told ≤ 29 * i) × (length out ≡ length out₀) × Put out₀ out at (cellLines (memory bits tags [] []) 0 i) told
+    (i ≤ sp) × (told ≤ 29 * i) × (length out ≡ length out₀) × Put out₀ out at (cellLines (cells bits tags) 0 i) told
 
 abbrev μ-loop : tie.MeasureT-loop
 μ-loop out₀ at sp bits tags told₀ i₀ out told i =
