@@ -15,19 +15,20 @@ use Rattle.rules.specs.declared.Position.{Position}
 use Rattle.rules.specs.declared.TextRefusal.{TextRefusal}
 use Rattle.digits.specs.Put.{Put}
 use Rattle.digits.proofs.Laws.{put-zeros}
+use Rattle.console.specs.Room.{printRoom}
 use Rattle.console.proofs.Reported.{report-short, refused-short}
 use Rattle.console.proofs.ConsoleRun.{console-within}
 
 -- ---- what is printed fits
 
-printed-for-short : (table : List ℕ) (a : Assembled) → length (printedFor table a) ≤ 32768
+printed-for-short : (table : List ℕ) (a : Assembled) → length (printedFor table a) ≤ printRoom
 unfolding printedFor
 printed-for-short table (Made n) =
     let p = program table n in
     report-short (consoleRun p) (console-within p .sp) (console-within p .written)
 printed-for-short table (Fault e p) = omega (arith, refused-short (textNumber e) p)
 
-pub printed-short : (source : List ℕ) → length (printed source) ≤ 32768
+pub printed-short : (source : List ℕ) → length (printed source) ≤ printRoom
 unfolding printed
 printed-short source =
     let a = assemble source (replicate maxProgram 0) in
@@ -45,12 +46,12 @@ module _ (source table : List ℕ) (a : Assembled) (et : table ≡ assemble sour
   printed-fault x p e = rw (← ea, e)
 
 -- what is printed stands in front, and zeros after it
-pub shown : (source new t : List ℕ) (r : ℕ) → printed source ≡ t → Put (replicate 32768 0) new 0 t r
-    → (r ≡ length (printed source)) × (new ≡ printed source ++ replicate (32768 - length (printed source)) 0)
+pub shown : (source new t : List ℕ) (r : ℕ) → printed source ≡ t → Put (replicate printRoom 0) new 0 t r
+    → (r ≡ length (printed source)) × (new ≡ printed source ++ replicate (printRoom - length (printed source)) 0)
 shown source new t r e p =
-    let q : Put (replicate 32768 0) new 0 (printed source) r = rw e p in
-    (q .length-told, put-zeros {n = 32768} (printed-short source) q)
+    let q : Put (replicate printRoom 0) new 0 (printed source) r = rw e p in
+    (q .length-told, put-zeros {n = printRoom} (printed-short source) q)
 
 -- so what is told lies within the lent bytes
-pub told-within : (source new : List ℕ) (r : ℕ) → (r ≡ length (printed source)) × (new ≡ printed source ++ replicate (32768 - length (printed source)) 0) → r ≤ length new
+pub told-within : (source new : List ℕ) (r : ℕ) → (r ≡ length (printed source)) × (new ≡ printed source ++ replicate (printRoom - length (printed source)) 0) → r ≤ length new
 told-within source new r p = rw (p .1, length-append) (omega (arith, p .0))

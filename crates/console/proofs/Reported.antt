@@ -15,6 +15,7 @@ use Rattle.rules.specs.Run.{Ran}
 use Rattle.rules.specs.Console.{line, cellLine, cellLines, outLine, report, refusedLine}
 use Rattle.rules.specs.declared.Position.{Position}
 use Rattle.rules.proofs.Texts.{length-decimal}
+use Rattle.console.specs.Room.{printRoom}
 use Rattle.console.proofs.Writing.{line-four, line-five, line-six, cell-short}
 use Rattle.console.proofs.OutLine.{out-short}
 
@@ -77,7 +78,7 @@ pub report-parts : (a : Ran) → report a
 unfolding report
 report-parts a = simp append-assoc
 
-pub report-short : (a : Ran) → a .answer .registers .sp < maxCells → a .answer .registers .written ≤ maxOutput → length (report a) ≤ 32768
+pub report-short : (a : Ran) → a .answer .registers .sp < maxCells → a .answer .registers .written ≤ maxOutput → length (report a) ≤ printRoom
 report-short a below within =
     let r = a .answer .registers in
     let o = a .memory .output in

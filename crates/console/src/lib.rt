@@ -12,6 +12,7 @@ ghost use mathlib.Core.List.{_++_};
 ghost use Prim.Native.Nat.{_-_};
 ghost use lib.ListN.{length, replicate};
 ghost use Rattle.rules.specs.Console.{printed};
+ghost use Rattle.console.specs.Room.{printRoom};
 pub use lines::put_cell;
 
 // The bytes that are lent for what is printed: enough for every source.
@@ -19,7 +20,7 @@ pub const OUTPUT_SIZE: usize = 32_768;
 
 // Assembles the source and runs the program, and writes what is printed for it; zeros after that, and its length told.
 pub fn print(source: &[u8], out: &mut [u8; OUTPUT_SIZE]) -> usize
-    ensures { λ r. ⌜ (r ≡ length (printed (now (source .entry)))) × (now (out .exit) ≡ printed (now (source .entry)) ++ replicate (32768 - length (printed (now (source .entry)))) 0) ⌝ }
+    ensures { λ r. ⌜ (r ≡ length (printed (now (source .entry)))) × (now (out .exit) ≡ printed (now (source .entry)) ++ replicate (printRoom - length (printed (now (source .entry)))) 0) ⌝ }
 {
     *out = [0; OUTPUT_SIZE];
     let mut table = [0u64; sizes::MAX_PROGRAM];

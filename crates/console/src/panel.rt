@@ -1,4 +1,4 @@
-// The line of the landing panel: what was written to the output. Each writer ends within OUTPUT_SIZE.
+// The line of the landing panel: what was written to the output. Each writer ends within the bytes that are lent.
 ghost use mathlib.Core.List.{_∷_};
 ghost use Prim.Native.Nat.{_+_, _*_, _≤_, _<_};
 ghost use lib.ListN.{length};
@@ -6,10 +6,11 @@ ghost use Rattle.rules.specs.Bytes.{space};
 ghost use Rattle.rules.specs.Listing.{hex};
 ghost use Rattle.rules.specs.Console.{bytesText, outLine};
 ghost use Rattle.digits.specs.Put.{Put};
+ghost use Rattle.console.specs.Room.{printRoom};
 
 // Writes a space and a byte as two hex digits.
 fn put_shown(out: &mut [u8], at: usize, byte: u8) -> usize
-    requires { ⌜ at + 3 ≤ 32768 ⌝ }
+    requires { ⌜ at + 3 ≤ printRoom ⌝ }
     ensures { λ r. ⌜ Put (now (out .entry)) (now (out .exit)) at (space ∷ hex 2 byte) r ⌝ }
 {
     digits::put_byte(out, at, 0, b' ');
@@ -18,7 +19,7 @@ fn put_shown(out: &mut [u8], at: usize, byte: u8) -> usize
 
 // Writes each of the bytes so, and LF.
 fn put_bytes(out: &mut [u8], at: usize, bytes: &[u8]) -> usize
-    requires { ⌜ at + 3 * length (now bytes) < 32768 ⌝ }
+    requires { ⌜ at + 3 * length (now bytes) < printRoom ⌝ }
     ensures { λ r. ⌜ Put (now (out .entry)) (now (out .exit)) at (bytesText (now (bytes .entry))) r ⌝ }
 {
     let mut told = 0;
@@ -33,7 +34,7 @@ fn put_bytes(out: &mut [u8], at: usize, bytes: &[u8]) -> usize
 
 // Writes the line `out` where there are bytes, and nothing where there are none.
 pub(crate) fn put_out(out: &mut [u8], at: usize, bytes: &[u8]) -> usize
-    requires { ⌜ at + 3 * length (now bytes) + 4 ≤ 32768 ⌝ }
+    requires { ⌜ at + 3 * length (now bytes) + 4 ≤ printRoom ⌝ }
     ensures { λ r. ⌜ Put (now (out .entry)) (now (out .exit)) at (outLine (now (bytes .entry))) r ⌝ }
 {
     if bytes.len() == 0 {

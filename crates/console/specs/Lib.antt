@@ -1,0 +1,2 @@
+-- What the console's contracts cite besides the rules.
+pub mod Room
