@@ -107,10 +107,10 @@ broken s =
     && shows (seenRun (run p 1 (s .registers) (s .memory))) 10 (s .registers .written) (s .memory .output)
     && eqb (numberOfDwell (Dwell.dwell p (s .registers) (s .memory))) 10
 
--- a step-back that is done, with what it leaves in the cells
-abbrev backTo : Seen → (bits tags : List ℕ) → (written : ℕ) → (output : List ℕ) → Bool
-backTo s bits tags written output =
-    let t = backOf s in shows t 0 written output && (same (t .memory .cells .bits) bits && same (t .memory .cells .tags) tags)
+-- done, and these cells left too
+abbrev leaves : Seen → (bits tags : List ℕ) → (written : ℕ) → (output : List ℕ) → Bool
+leaves s bits tags written output =
+    shows s 0 written output && (same (s .memory .cells .bits) bits && same (s .memory .cells .tags) tags)
 
 -- the step place of the WRITECH, with one value before it: of no cell, and of one; and that of the STOP
 abbrev wrote : ℕ
@@ -122,7 +122,7 @@ wroteCell = 0x8000040000400000
 abbrev stopped : ℕ
 stopped = 0x8010040000000000
 
--- the place of a cell, which a CH has at address 0 and a tag of its own
+-- the cell place of address 0 that keeps this tag and these bits
 abbrev keptAs : (tag bits : ℕ) → ℕ
 keptAs tag bits = tag * 0x0004000000000000 + bits * 0x40000
 
@@ -137,9 +137,10 @@ characters =
     ∷ after 16 4 "PUSHIMMCH 72 WRITECH PUSHIMMCH 73 WRITECH STOP" 6 9 0 (0 ∷ 0 ∷ 0 ∷ 0 ∷ [])
     ∷ after 0 4 "PUSHIMMCH 72 WRITECH PUSHIMMCH 73 WRITECH STOP" 0 0 2 (72 ∷ 73 ∷ 0 ∷ 0 ∷ [])
     ∷ after 0 4 "PUSHIMMCH 72 WRITECH PUSHIMMCH 73 WRITECH STOP" 1 9 2 (72 ∷ 73 ∷ 0 ∷ 0 ∷ [])
-    -- "WRITECH writes no cell": its record is one place behind the two of the push, and the CH stays in its cell
+    -- "WRITECH writes no cell": its record is one place behind the two of the push, and the CH stays in its cell; a byte that was dropped is written again
     ∷ after 3 1 "PUSHIMMCH 72 WRITECH" 0 2 1 (72 ∷ [])
-    ∷ holds (records 16 3 "PUSHIMMCH 72" (0 ∷ 0x8000000000400000 ∷ []))
+    ∷ leaves (stepOf (given 1 (72 ∷ 0 ∷ []) (4 ∷ 0 ∷ []) [] 0 (0 ∷ []))) (72 ∷ 0 ∷ []) (4 ∷ 0 ∷ []) 1 (72 ∷ [])
+    ∷ leaves (stepOf (backOf (given 0 (72 ∷ 0 ∷ []) (4 ∷ 0 ∷ []) (wrote ∷ []) 1 (72 ∷ [])))) (72 ∷ 0 ∷ []) (4 ∷ 0 ∷ []) 1 (72 ∷ [])
     -- "12 when the output is full", with 0 bytes from the start
     ∷ after 16 1 "PUSHIMMCH 72 WRITECH PUSHIMMCH 73 WRITECH STOP" 0 12 1 (72 ∷ [])
     ∷ after 16 0 "PUSHIMMCH 72 WRITECH" 0 12 0 []
@@ -202,12 +203,12 @@ characters =
     ∷ shows (backOf (given 0 (0 ∷ 0 ∷ []) (0 ∷ 0 ∷ []) (keptAs 7 0 ∷ wroteCell ∷ []) 1 (72 ∷ []))) 10 1 (72 ∷ [])
     ∷ shows (backOf (given 0 (0 ∷ 0 ∷ []) (0 ∷ 0 ∷ []) (keptAs 4 128 ∷ wroteCell ∷ []) 1 (72 ∷ []))) 10 1 (72 ∷ [])
     -- a record at a WRITECH, made by hand, may have cells: they are restored too
-    ∷ backTo (given 0 (9 ∷ 0 ∷ []) (0 ∷ 0 ∷ []) (keptAs 4 127 ∷ wroteCell ∷ []) 1 (72 ∷ 5 ∷ [])) (127 ∷ 0 ∷ []) (4 ∷ 0 ∷ []) 0 (0 ∷ 5 ∷ [])
-    ∷ backTo (given 0 (9 ∷ 0 ∷ []) (0 ∷ 0 ∷ []) (wrote ∷ []) 2 (72 ∷ 73 ∷ 5 ∷ [])) (9 ∷ 0 ∷ []) (0 ∷ 0 ∷ []) 1 (72 ∷ 0 ∷ 5 ∷ [])
+    ∷ leaves (backOf (given 0 (9 ∷ 0 ∷ []) (0 ∷ 0 ∷ []) (keptAs 4 127 ∷ wroteCell ∷ []) 1 (72 ∷ 5 ∷ []))) (127 ∷ 0 ∷ []) (4 ∷ 0 ∷ []) 0 (0 ∷ 5 ∷ [])
+    ∷ leaves (backOf (given 0 (9 ∷ 0 ∷ []) (0 ∷ 0 ∷ []) (wrote ∷ []) 2 (72 ∷ 73 ∷ 5 ∷ []))) (9 ∷ 0 ∷ []) (0 ∷ 0 ∷ []) 1 (72 ∷ 0 ∷ 5 ∷ [])
     -- "at step-back a top record at a WRITECH with nothing written" is 10; a record elsewhere asks for none
     ∷ shows (backOf (given 0 (9 ∷ 0 ∷ []) (0 ∷ 0 ∷ []) (wrote ∷ []) 0 (72 ∷ []))) 10 0 (72 ∷ [])
     ∷ shows (backOf (given 0 (9 ∷ 0 ∷ []) (0 ∷ 0 ∷ []) (wrote ∷ []) 0 [])) 10 0 []
-    ∷ backTo (given 0 (9 ∷ 0 ∷ []) (0 ∷ 0 ∷ []) (stopped ∷ []) 0 (72 ∷ [])) (9 ∷ 0 ∷ []) (0 ∷ 0 ∷ []) 0 (72 ∷ [])
+    ∷ leaves (backOf (given 0 (9 ∷ 0 ∷ []) (0 ∷ 0 ∷ []) (stopped ∷ []) 0 (72 ∷ []))) (9 ∷ 0 ∷ []) (0 ∷ 0 ∷ []) 0 (72 ∷ [])
     -- "prints a live CH as a number and, if output was written, ends with a line `out`", also after a refusal
     ∷ prints 4 "PUSHIMMCH 72 WRITECH PUSHIMMCH 10 WRITECH PUSHIMMCH 65 STOP" ("end 0 steps 6" ∷ "PC 5 SP 1 FBR 0" ∷ "0 CH 65" ∷ "out 48 0A" ∷ [])
     ∷ prints 1 "PUSHIMMCH 72 WRITECH PUSHIMMCH 73 WRITECH" ("end 12 steps 3" ∷ "PC 3 SP 1 FBR 0" ∷ "0 CH 73" ∷ "out 48" ∷ [])
