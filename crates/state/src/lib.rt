@@ -80,21 +80,22 @@ fn has_output_within(written: usize, output: usize) -> bool
     written <= output
 }
 
-// Whether a cell may stand in a sound state: its tag is at most CH, the last, a PA is at most the program's length, and a CH at most the last character.
+// Whether a cell may stand in a sound state: INT, FLOAT and MA, the tags below PA, hold any bits, a PA is at most the program's length, a CH at most the last
+// character, and there is no other tag.
 pub fn is_sound_cell(count: usize, tag: u8, bits: u32) -> bool
     ensures { λ a. ⌜ a ≡ soundCell count tag bits ⌝ }
 {
     let address = bits as usize;
-    if tags::CH < tag {
-        return false;
+    if tag < tags::PA {
+        return true;
     }
     if tag == tags::PA {
         return address <= count;
     }
-    if tag != tags::CH {
-        return true;
+    if tag == tags::CH {
+        return bits <= sizes::MAX_CHARACTER;
     }
-    bits <= sizes::MAX_CHARACTER
+    false
 }
 
 // Whether every cell may.
