@@ -20,7 +20,7 @@ use Rattle.rules.specs.declared.Step.{Step}
 use Rattle.rules.specs.declared.Step.the-variants.{Refused}
 use Rattle.state.specs.Outcomes.{stepped}
 use Rattle.machine.specs.Fits.{Fits}
-use Rattle.machine.specs.Stages.{committed, outputBy}
+use Rattle.machine.specs.Committed.{committed, outputBy}
 use Rattle.machine.specs.Plan.{shaped, planned}
 use Rattle.machine.specs.declared.plans.Plan.{Plan}
 use Rattle.machine.specs.declared.plans.Shape.{Shape}

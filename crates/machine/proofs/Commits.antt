@@ -20,7 +20,7 @@ use Rattle.rules.specs.declared.MachineRefusal.the-variants.{HistoryFull}
 use Rattle.rules.specs.declared.Step.{Step}
 use Rattle.rules.specs.declared.Step.the-variants.{Next, Refused}
 use Rattle.state.specs.Outcomes.{stepped}
-use Rattle.machine.specs.Stages.{committed, outputBy}
+use Rattle.machine.specs.Committed.{committed, outputBy}
 use Rattle.machine.proofs.Blocks.{grown-none, grown-more}
 
 -- ---- room for a record

@@ -17,7 +17,7 @@ use Rattle.rules.specs.declared.MachineRefusal.the-variants.{OutputFull}
 use Rattle.rules.specs.declared.Step.{Step}
 use Rattle.rules.specs.declared.Step.the-variants.{Next, Refused}
 use Rattle.state.specs.Outcomes.{stepped}
-use Rattle.machine.specs.Stages.{committed, outputBy}
+use Rattle.machine.specs.Committed.{committed, outputBy}
 use Rattle.machine.specs.Plan.{shows}
 use Rattle.machine.specs.declared.plans.Plan.{Plan}
 

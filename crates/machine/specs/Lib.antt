@@ -4,7 +4,7 @@ pub mod Small
 pub mod Live
 pub mod Values
 pub mod Reach
-pub mod Stages
+pub mod Committed
 pub mod Plan
 pub mod Families
 pub mod Fields

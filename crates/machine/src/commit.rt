@@ -18,7 +18,7 @@ ghost use Rattle.rules.specs.Sizes.{maxOutput};
 ghost use Rattle.state.specs.Outcomes.{stepped};
 ghost use Rattle.machine.specs.Fields.{Fields};
 ghost use Rattle.machine.specs.Fits.{Fits};
-ghost use Rattle.machine.specs.Stages.{outputBy, committed};
+ghost use Rattle.machine.specs.Committed.{outputBy, committed};
 
 // Sets `count` cells, from `from` on, to INT 0.
 fn zero_cells(bits: &mut [u32], tags: &mut [u8], from: usize, count: usize)

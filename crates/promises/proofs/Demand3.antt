@@ -1,6 +1,6 @@
--- Demand 3, and request g's kept number: for every program, every lent memory that a reset accepts, of any N and H, H = 0 among them, and any output, one of 0
--- bytes among them, every series, refused requests among them, and a fresh reset of any memory of the same sizes: `demand3`. What it says is specs/Series.antt, over the definitions that the
--- contracts of the calls cite. Assumes nothing.
+-- Demand 3, with request g's kept number and request h's output: for every program, every lent memory that a reset accepts, of any N and H, H = 0 among them,
+-- and any output, one of 0 bytes among them, every series, refused requests among them, and a fresh reset of any memory of the same sizes: `demand3`. What it
+-- says is specs/Series.antt, over the definitions that the contracts of the calls cite. Assumes nothing.
 use Prim.Native.Nat.{ℕ, _-_}
 use mathlib.Core.Path.{_≡_, refl, sym, ap, ap₂, _∙_, subst}
 use mathlib.Core.Bool.{Bool, true, false, _||_, cond}

@@ -15,7 +15,8 @@ use Rattle.rules.specs.Operands.{numberOf, floatOf}
 use Rattle.rules.specs.Numbers.{textNumber}
 use Rattle.rules.specs.Instructions.{codes, kindOf}
 use Rattle.rules.specs.Table.{placeOf}
-use Rattle.rules.specs.Assemble.{codeNamed, allowedRun, body, isLabel, Label, Found, nowhere, foundAt, lookup, Item, finished, numbered, beyond, labelled, Awaited, instruction, operandFor, Progress, Reading, item, bad, plainNumber, targetNumber, targetLabel, targetOf, operandOfKind, Judged, go, stop, addLabel, newLabel, begunAs, newName, newOperand, judgeAs, judgeToken, Outcome, done, refused, join, settleLabel, settle, finishAs, finish, after, judge, nothing, translated}
+use Rattle.rules.specs.Assemble.{codeNamed, allowedRun, body, isLabel, Label, Found, nowhere, foundAt, lookup, Item, finished, numbered, beyond, labelled, Awaited, instruction, operandFor, Progress, Reading, item, bad, plainNumber, targetNumber, targetLabel}
+use Rattle.rules.specs.Assemble.{targetOf, operandOfKind, Judged, go, stop, addLabel, newLabel, begunAs, newName, newOperand, judgeAs, judgeToken, Outcome, done, refused, join, settleLabel, settle, finishAs, finish, after, judge, nothing, translated}
 use Rattle.rules.specs.declared.Kind.{Kind}
 use Rattle.rules.specs.declared.Kind.the-variants.{Bare, Immediate, Pattern, Offset, Target, Character}
 use Rattle.rules.specs.declared.Numeral.{Numeral}

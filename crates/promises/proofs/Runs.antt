@@ -66,7 +66,7 @@ Because p limit a (Stopped x) =
 pub record IsItsSteps (p : Program) (limit : ℕ) (r : Registers) (m : Memory) (a : Ran) : Type 0 where
   -- never above the lent limit
   pub within : a .answer .steps ≤ limit
-  -- registers, cells, tags and history are those after as many steps as are told
+  -- registers and memory are those after as many steps as are told
   pub registers : a .answer .registers ≡ afterSteps p (a .answer .steps) r m .registers
   pub memory : a .memory ≡ afterSteps p (a .answer .steps) r m .memory
   -- each of which is accepted
