@@ -1,7 +1,7 @@
 /* The SaM machine for C: every call of the proved library, with numbers and lent memory only.
  *
  * Link target/staticlib/libsam_c.a. Every call gives a number of document 01, with what requests a (24, 33), d (6),
- * e (5, 25, 33), f (60 to 63), g (10) and h (10, 11, 12, 43) add:
+ * e (5, 25, 33), f (60 to 63), g (10), h (10, 11, 12, 43) and i (10, 14) add:
  *
  *    0  done, or a run found HALT 1
  *    1  step with HALT 1
@@ -14,10 +14,12 @@
  *    8  H above 0 and fewer than (cells written + 1) places free
  *    9  step-back with U = 0
  *   10  broken state or table; a kept number above U, or 0 with U above 0, is a broken state, and so is an output above
- *       256 bytes or a written count above its length
+ *       256 bytes or a written count above its length; at a forget also a used record that is not well formed, or a
+ *       kept number other than that of the records in use
  *   11  at reset N, H or the output outside the sizes below, or cells and tags of unequal count; at a run a limit above
  *       1,000,000
  *   12  WRITECH with a full output; it comes after 7 and before 8
+ *   14  forget of more steps than are kept
  *   21  source too long                       26  label twice
  *   22  forbidden byte                        27  label unknown
  *   23  no instruction or label here          28  too many instructions
@@ -39,8 +41,8 @@
  * line and the column that assemble tells and the steps that a run made before a step was refused.
  *
  * Assemble, list, pack and unpack write an output: a table, a text, an image. Refused, for a `told` of another length
- * too, they leave an output of wrong length untouched and zero one of right length. A refused step, step-back, reset or
- * run-entry changes no cell, tag, history place or byte of the machine's output.
+ * too, they leave an output of wrong length untouched and zero one of right length. A refused step, step-back, forget,
+ * reset or run-entry changes no cell, tag, history place or byte of the machine's output.
  */
 #ifndef SAM_H
 #define SAM_H
@@ -76,13 +78,15 @@ enum {
     SAM_RESET_STACK = 256,
     SAM_STEP_STACK = 768,
     SAM_STEP_BACK_STACK = 512,
+    SAM_FORGET_STACK = 512,
     SAM_RUN_STACK = 768,
     SAM_DWELL_STACK = 512
 };
 
 /* The registers are a lent slice of nine. Registers of another length are a 10 in 10's place, so after 11 at a reset
  * and a run, and stay as they are. SAM_KEPT is how many steps can be taken back: after a reset the steps accepted less
- * the step-backs accepted, and 0 where H is 0. SAM_WRITTEN is how many bytes of the output are written. */
+ * the step-backs accepted and the steps forgotten, and 0 where H is 0. SAM_WRITTEN is how many bytes of the output are
+ * written. */
 enum { SAM_N, SAM_H_PLACES, SAM_PC, SAM_SP, SAM_FBR, SAM_HALT, SAM_U, SAM_KEPT, SAM_WRITTEN, SAM_REGISTERS };
 
 /* The tag of a cell. A CH is a character code, 0 to 127. */
@@ -130,6 +134,14 @@ uint32_t sam_step(const uint64_t *table, size_t places, uint64_t length, uint64_
 uint32_t sam_step_back(const uint64_t *table, size_t places, uint64_t length, uint64_t *registers,
                        size_t registers_len, uint32_t *bits, size_t n, uint8_t *tags, size_t tags_len,
                        uint64_t *history, size_t h, uint8_t *output, size_t output_len);
+
+/* Forgets the k oldest of the steps that can be taken back: their history places go, those of the others move down to
+ * place 0, the room gained is zeroed, and later steps use it. U and the kept number fall; no cell, tag, byte of output
+ * or other register changes. 10 as for a step, and also where a record in use is not well formed or the kept number is
+ * not that of the records in use; then 14 where k is above the kept number. A refused forget changes nothing. */
+uint32_t sam_forget(const uint64_t *table, size_t places, uint64_t length, uint64_t k, uint64_t *registers,
+                    size_t registers_len, uint32_t *bits, size_t n, uint8_t *tags, size_t tags_len, uint64_t *history,
+                    size_t h, uint8_t *output, size_t output_len);
 
 /* Makes steps until HALT is 1 (0), the limit is made (50) or a step is refused (its number); 11, then 10 at its entry.
  * told[1]: the number of steps made, which stand. */

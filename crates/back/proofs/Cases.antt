@@ -1,12 +1,11 @@
 -- A step-back in each of its cases, with the top record's fields in locals as the code has them. Assumes nothing.
-use Prim.Native.Nat.{ℕ, _+_, _-_, _≤_, _<_, min}
-use mathlib.Core.Path.{_≡_, refl, sym, ap, ap₂, _∙_}
+use Prim.Native.Nat.{ℕ, _+_, _-_, _≤_, _<_}
+use mathlib.Core.Path.{_≡_, refl, sym, ap, _∙_}
 use mathlib.Core.Bool.{Bool, true, false, not, _&&_, _||_, cond}
-use mathlib.Core.List.{List, _++_}
+use mathlib.Core.List.{List}
 use native.Mathlib.Omega.{arith}
 use lib.Dec.{ltb}
-use lib.ListN.{length, take, drop, replicate, length-take, length-drop, length-replicate}
-use lib.Seq.{drop-drop}
+use lib.ListN.{length, take, drop, replicate}
 use borrow.Rule.Slice.PartMut.{putMid}
 use borrow.Author.Tests.{eq-eqb, ne-eqb}
 use Rattle.rules.specs.Lists.{part, splice}
@@ -14,30 +13,22 @@ use Rattle.rules.specs.Places.{cellTag, cellBits, stepPc, stepSp, stepFbr, step
 use Rattle.rules.specs.Table.{Program}
 use Rattle.rules.specs.State.{Memory, sound}
 use Rattle.rules.specs.Step.{unchanged}
-use Rattle.rules.specs.Back.{topPlace, topCells, formedCells, formedStep, formedTop, showsAt, canDrop, writtenBack, outputBack, restored, undoneAt, undone, plainBack, back}
+use Rattle.rules.specs.Back.{topRecord, topPlace, formedTop, showsAt, canDrop, writtenBack, outputBack, restored, undoneAt, undone, plainBack, back}
 use Rattle.rules.specs.declared.Registers.{Registers}
 use Rattle.rules.specs.declared.MachineRefusal.the-variants.{NoHistory, Broken}
 use Rattle.rules.specs.declared.Step.the-variants.{Next}
-use Rattle.rules.proofs.Tests.{and-left, and-right}
+use Rattle.lent.proofs.Parts.{part-cleared}
 use Rattle.state.specs.Held.{Held}
 use Rattle.state.specs.Outcomes.{stepped}
+use Rattle.rules.proofs.Records.{old-pc-below, cells-within, addresses-below}
 use Rattle.back.specs.Undoable.{placesOf, Undoable}
-use Rattle.back.proofs.Cells.{pc-below, count-below, formed-below}
-
--- a part that was lent, and came back as vs
-put-splice : (a k : ℕ) (xs ys vs : List ℕ) → ys ≡ vs → k ≡ length vs → putMid a k xs ys ≡ splice xs a vs
-put-splice a k xs ys vs e h =
-    ap₂ (λ (l : List ℕ) (n : ℕ). take a xs ++ (l ++ drop n (drop a xs))) e h
-    ∙ ap (λ (l : List ℕ). take a xs ++ (vs ++ l)) (drop-drop (length vs) a xs)
 
 -- the zeros of a record of x cells, the last of u places used
-pub zeroed : (u x : ℕ) (h ys : List ℕ) → x < u → u ≤ length h → ys ≡ replicate (length (take (u - (u - 1 - x)) (drop (u - 1 - x) h))) 0
+pub zeroed : (u x : ℕ) (h ys : List ℕ) → x < u → u ≤ length h → ys ≡ replicate (length (part (u - 1 - x) (u - (u - 1 - x)) h)) 0
     → putMid (u - 1 - x) (u - (u - 1 - x)) h ys ≡ splice h (u - 1 - x) (replicate (x + 1) 0)
 zeroed u x h ys xu uh e =
-    let l : length (take (u - (u - 1 - x)) (drop (u - 1 - x) h)) ≡ x + 1 =
-    length-take (u - (u - 1 - x)) (drop (u - 1 - x) h) ∙ ap (λ (k : ℕ). min (u - (u - 1 - x)) k) (length-drop (u - 1 - x) h) ∙ omega arith in
-    put-splice (u - 1 - x) (u - (u - 1 - x)) h ys (replicate (x + 1) 0) (e ∙ ap (λ (k : ℕ). replicate k 0) l)
-    (omega (arith, length-replicate {A = ℕ} (x + 1) 0))
+    let all : u - (u - 1 - x) ≡ x + 1 = omega arith in
+    part-cleared (u - 1 - x) (u - (u - 1 - x)) h ys (omega arith) e ∙ ap (λ (k : ℕ). splice h (u - 1 - x) (replicate k 0)) all
 
 -- ---- a record of x cells, of which the step place is top
 
@@ -95,42 +86,21 @@ module _ (r : Registers) (m : Memory) (top x : ℕ) (ex : x ≡ stepCount top) (
       (eo i)
 
 module _ (p : Program) (r : Registers) (m : Memory) where
-  -- ---- whether the top record is well formed
+  -- ---- where the top record is well formed
 
-  pub top-step : formedStep (r .n) (p .count) (r .used) (topPlace r m) ≡ false → formedTop p r m ≡ false
-  top-step k = ap (λ (z : Bool). z && formedCells (r .n) (p .count) 0 (topCells r m)) k
-
-  module _ (ok : formedStep (r .n) (p .count) (r .used) (topPlace r m) ≡ true) where
-    pub count-within : (x : ℕ) → x ≡ stepCount (topPlace r m) → x < r .used
-    count-within x ex = omega (arith, ex, count-below (r .n) (p .count) (r .used) (topPlace r m) ok)
-
-    pub top-cells : (x : ℕ) (ex : x ≡ stepCount (topPlace r m))
-        → formedTop p r m ≡ formedCells (r .n) (p .count) 0 (cells-lent r m (topPlace r m) x ex (count-within x ex))
-    top-cells x ex =
-        ap (λ (z : Bool). z && formedCells (r .n) (p .count) 0 (topCells r m)) ok
-        ∙ ap (formedCells (r .n) (p .count) 0) (sym (lent-is r m (topPlace r m) x ex (count-within x ex)))
-
-  -- where it is, and a place is used
   module _ (formed : formedTop p r m ≡ true) where
-    step-formed : formedStep (r .n) (p .count) (r .used) (topPlace r m) ≡ true
-    step-formed = and-left (formedStep (r .n) (p .count) (r .used) (topPlace r m)) (formedCells (r .n) (p .count) 0 (topCells r m)) formed
-
-    cells-formed : formedCells (r .n) (p .count) 0 (topCells r m) ≡ true
-    cells-formed = and-right (formedStep (r .n) (p .count) (r .used) (topPlace r m)) (formedCells (r .n) (p .count) 0 (topCells r m)) formed
-
     pub old-pc : stepPc (topPlace r m) < p .count
-    old-pc = pc-below (r .n) (p .count) (r .used) (topPlace r m) step-formed
+    old-pc = old-pc-below (r .n) (p .count) (topRecord r m) formed
 
-    pub undoable : (shows : Bool) → Held p r m → (not shows || ltb 0 (r .written)) ≡ true → Undoable (topPlace r m) shows r m
-    undoable shows held can =
-        let count : stepCount (topPlace r m) < r .used = count-below (r .n) (p .count) (r .used) (topPlace r m) step-formed in
-        let some : r .kept ≡ 0 → ⊥ = λ q. let none : r .used ≡ 0 = held .none q in let z : ⊥ = omega (arith, count, none) in z in
+    pub undoable : (shows : Bool) → (r .used ≡ 0 → ⊥) → Held p r m → (not shows || ltb 0 (r .written)) ≡ true → Undoable (topPlace r m) shows r m
+    undoable shows used held can =
+        let some : r .kept ≡ 0 → ⊥ = λ q. used (held .none q) in
         record {
           tagged = held .cells ∙ sym (held .tagged);
           kept = omega (arith, some);
-          count = count;
+          count = omega (arith, used, cells-within (r .n) (p .count) (topRecord r m) formed);
           used = omega (arith, held .places, held .used);
-          addresses = λ k h. omega (arith, held .cells, formed-below (r .n) (p .count) 0 (topCells r m) cells-formed k h);
+          addresses = λ k h. omega (arith, held .cells, addresses-below (r .n) (p .count) (topRecord r m) formed k h);
           drops = can;
           written = held .written;
         }

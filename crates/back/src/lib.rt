@@ -5,94 +5,16 @@ use rules::Step;
 use rules::codes;
 ghost use mathlib.Core.Path.{_≡_};
 ghost use mathlib.Core.Bool.{true, not, _||_};
-ghost use mathlib.Core.List.{[]};
 ghost use Prim.Native.Nat.{ℕ, _≤_, _<_};
 ghost use lib.Dec.{ltb};
 ghost use lib.ListN.{length, getD};
 ghost use Rattle.rules.specs.Places.{cellAddress, cellTag, cellBits, stepPc, stepSp, stepFbr, stepCount};
 ghost use Rattle.rules.specs.Table.{program};
 ghost use Rattle.rules.specs.State.{memory};
-ghost use Rattle.rules.specs.Back.{formedCell, formedCells, formedStep, formedTop, showsAt, writtenBack, outputBack, restored, undoneAt, plainBack, back};
+ghost use Rattle.rules.specs.Back.{showsAt, writtenBack, outputBack, restored, undoneAt, plainBack, back};
 ghost use Rattle.state.specs.Held.{Held};
 ghost use Rattle.state.specs.Outcomes.{stepped};
 ghost use Rattle.back.specs.Undoable.{Undoable};
-
-// Whether a cell place is well formed, of N cells in a program of `count` instructions, with an address of at least `low`.
-fn is_formed_cell(place: u64, low: usize, n: usize, count: usize) -> bool
-    ensures { λ a. ⌜ a ≡ formedCell n count low place ⌝ }
-{
-    let address = places::cell_address(place);
-    if places::mark_of(place) != places::CELL_MARK {
-        return false;
-    }
-    if places::cell_zeros(place) != 0 {
-        return false;
-    }
-    if address < low {
-        return false;
-    }
-    if n <= address {
-        return false;
-    }
-    state::is_sound_cell(count, places::cell_tag(place), places::cell_bits(place))
-}
-
-// Whether the cell places are well formed, and their addresses rise strictly.
-fn are_formed_cells(cells: &[u64], n: usize, count: usize) -> bool
-    ensures { λ a. ⌜ a ≡ formedCells n count 0 (now (cells .entry)) ⌝ }
-{
-    let mut low = 0;
-    let mut i = 0;
-    while i < cells.len() {
-        let place = cells[i];
-        let ok = is_formed_cell(place, low, n, count);
-        if !ok {
-            return false;
-        }
-        low = places::cell_address(place) + 1;
-        i += 1;
-    }
-    true
-}
-
-// Whether a step place is well formed, with `used` places used.
-fn is_formed_step(place: u64, n: usize, count: usize, used: usize) -> bool
-    ensures { λ a. ⌜ a ≡ formedStep n count used place ⌝ }
-{
-    if places::mark_of(place) != places::STEP_MARK {
-        return false;
-    }
-    if places::step_zeros(place) != 0 {
-        return false;
-    }
-    if count <= places::step_pc(place) {
-        return false;
-    }
-    if n <= places::step_sp(place) {
-        return false;
-    }
-    if n <= places::step_fbr(place) {
-        return false;
-    }
-    places::step_count(place) < used
-}
-
-// Whether the top record is well formed, where a place is used.
-fn is_formed_top(r: Registers, count: usize, history: &[u64]) -> bool
-    requires { ⌜ 0 < r .used ⌝ }
-    requires { ⌜ r .used ≤ length (now history) ⌝ }
-    ensures { λ a. ⌜ a ≡ formedTop (program [] count) r (memory [] [] (now (history .entry)) []) ⌝ }
-{
-    let used = r.used;
-    let last = used - 1;
-    let top = history[last];
-    let formed = is_formed_step(top, r.n, count, used);
-    if !formed {
-        return false;
-    }
-    let from = last - places::step_count(top);
-    are_formed_cells(&history[from..last], r.n, count)
-}
 
 // Whether the instruction at that PC is a WRITECH.
 fn shows_at(table: &[u64], pc: usize) -> bool
@@ -197,11 +119,11 @@ fn plain_back(
     if used == 0 {
         return Step::Refused(MachineRefusal::NoHistory);
     }
-    let formed = is_formed_top(r, count, history);
+    let last = used - 1;
+    let formed = records::is_formed_record(history, last, r.n, count);
     if !formed {
         return Step::Refused(MachineRefusal::Broken);
     }
-    let last = used - 1;
     let top = history[last];
     let shows = shows_at(table, places::step_pc(top));
     let drops = can_drop(shows, r.written);

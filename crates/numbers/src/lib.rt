@@ -4,6 +4,8 @@ use rules::Begun;
 use rules::Dwell;
 use rules::DwellRefusal;
 use rules::Ending;
+use rules::ForgetRefusal;
+use rules::Forgot;
 use rules::ImageRefusal;
 use rules::Listed;
 use rules::MachineRefusal;
@@ -13,7 +15,7 @@ use rules::Position;
 use rules::Step;
 use rules::TextRefusal;
 ghost use mathlib.Core.Path.{_≡_};
-ghost use Rattle.rules.specs.Numbers.{machineNumber, textNumber, imageNumber, numberOfReset, numberOfStep, numberOfEnding, numberOfAssembled, lengthOfAssembled, positionOfAssembled, numberOfListed, lengthOfListed, numberOfPacked, lengthOfPacked, unreadNumber, numberOfDwell, tenthsOfDwell};
+ghost use Rattle.rules.specs.Numbers.{machineNumber, textNumber, imageNumber, numberOfReset, numberOfStep, numberOfEnding, numberOfAssembled, lengthOfAssembled, positionOfAssembled, numberOfListed, lengthOfListed, numberOfPacked, lengthOfPacked, unreadNumber, numberOfDwell, tenthsOfDwell, forgetNumber, numberOfForgot};
 
 // The number of a refusal of the machine: 1 to 12.
 pub fn machine_number(e: MachineRefusal) -> u32
@@ -84,6 +86,16 @@ pub fn unread_number(e: DwellRefusal) -> u32
     }
 }
 
+// The number of a refusal of a forget: 10 and 14.
+pub fn forget_number(e: ForgetRefusal) -> u32
+    ensures { λ r. ⌜ r ≡ forgetNumber e ⌝ }
+{
+    match e {
+        ForgetRefusal::RecordsBroken => 10,
+        ForgetRefusal::TooManySteps => 14,
+    }
+}
+
 // The number of a reset.
 pub fn reset_number(begun: Begun) -> u32
     ensures { λ r. ⌜ r ≡ numberOfReset begun ⌝ }
@@ -101,6 +113,16 @@ pub fn step_number(step: Step) -> u32
     match step {
         Step::Next(_) => 0,
         Step::Refused(e) => machine_number(e),
+    }
+}
+
+// The number of a forget.
+pub fn forgot_number(forgot: Forgot) -> u32
+    ensures { λ r. ⌜ r ≡ numberOfForgot forgot ⌝ }
+{
+    match forgot {
+        Forgot::Forgotten(_) => 0,
+        Forgot::NotForgotten(e) => forget_number(e),
     }
 }
 

@@ -1,18 +1,20 @@
--- A reset that is accepted leaves a good state: sound, its cells of 32 bits, its history and its output zero. Assumes nothing.
+-- A reset that is accepted leaves a machine that holds no record, and without its history is in a good state: sound, its cells of 32 bits, its output zero. So
+-- it is where a series begins. Assumes nothing.
 use Prim.Native.Nat.{ℕ, _≤_, zero-le}
 use mathlib.Core.Path.{_≡_, refl, sym, ap, _∙_, subst}
 use mathlib.Core.Bool.{Bool, true, false, cond}
+use mathlib.Core.List.{[]}
 use native.Mathlib.Nat.{sub-zero}
 use native.Mathlib.Omega.{arith}
 use lib.Dec.{lit<}
 use lib.ListN.{length, getD, replicate, length-replicate}
 use borrow.Author.Tests.{leb-true, eqb-true}
 use Rattle.rules.specs.Lists.{every}
-use Rattle.rules.specs.Sizes.{maxOutput}
+use Rattle.rules.specs.Sizes.{maxHistory, maxOutput}
 use Rattle.rules.specs.Table.{Program, soundTable}
 use Rattle.rules.specs.Tags.{int}
 use Rattle.rules.specs.State.{Memory}
-use Rattle.rules.specs.Reset.{Started, denied, sizeTests, zeroed, begun, reset}
+use Rattle.rules.specs.Reset.{Started, cleared, denied, sizeTests, zeroed, begun, reset}
 use Rattle.rules.specs.declared.MachineRefusal.{MachineRefusal}
 use Rattle.rules.specs.declared.MachineRefusal.the-variants.{Broken, OutsideSizes}
 use Rattle.rules.specs.declared.Begun.the-variants.{Ready, NotReady}
@@ -21,8 +23,11 @@ use Rattle.rules.proofs.Fair.{FairCell}
 use Rattle.rules.proofs.FairEffects.{fair-plain}
 use Rattle.rules.proofs.Sound.{facts-sound}
 use Rattle.rules.proofs.Zeros.{zeros-at}
-use Rattle.promises.specs.Series.{SameSizes}
-use Rattle.promises.proofs.Demand3Trail.{State, Good}
+use Rattle.promises.specs.Unbounded.{Unbounded, unmoved}
+use Rattle.promises.specs.Series.{State, left, SameSizes, Origin, reset as byReset}
+use Rattle.promises.proofs.Demand3Good.{Good}
+use Rattle.promises.proofs.Demand3Run.{plain}
+use Rattle.promises.proofs.Demand3Held.{held}
 
 -- ---- a reset that is accepted
 
@@ -53,36 +58,35 @@ reset-ready p m sizes table = rw (sizes, table) refl
 -- ---- what it leaves
 
 -- what it leaves hangs on the sizes of the lent memory alone
-begun-sized : (m m′ : Memory) → SameSizes m m′ → begun m ≡ begun m′
-begun-sized m m′ same = rw (same .bits, same .tags, same .history, same .output)
+begun-sized : (m m′ : Memory) → SameSizes m m′ → length (m .history) ≡ length (m′ .history) → begun m ≡ begun m′
+begun-sized m m′ same history = rw (same .bits, same .tags, history, same .output)
 
-pub reset-sized : (p : Program) (m m′ : Memory) → reset p m .answer .begun ≡ Ready → SameSizes m m′ → reset p m ≡ reset p m′
-reset-sized p m m′ ready same =
+pub reset-sized : (p : Program) (m m′ : Memory) → reset p m .answer .begun ≡ Ready → SameSizes m m′ → length (m .history) ≡ length (m′ .history)
+    → reset p m ≡ reset p m′
+reset-sized p m m′ ready same history =
     let a : Accepted p m = reset-accepted p m ready in
-    let sizes : every (sizeTests m′) ≡ true = rw (sym (same .bits), sym (same .tags), sym (same .history), sym (same .output)) (a .sizes) in
+    let sizes : every (sizeTests m′) ≡ true = rw (sym (same .bits), sym (same .tags), sym history, sym (same .output)) (a .sizes) in
     let b : Accepted p m′ = reset-accepted p m′ (reset-ready p m′ sizes (a .table)) in
-    a .leaves ∙ begun-sized m m′ same ∙ sym (b .leaves)
+    a .leaves ∙ begun-sized m m′ same history ∙ sym (b .leaves)
 
--- where a reset leaves the machine
-abbrev pub left : Started → State
-left o = record { registers = o .answer .registers; memory = o .memory }
-
-good-begun : (p : Program) (m : Memory) → Accepted p m → Good p (left (begun m))
+-- the machine that it leaves, without its history, is in a good state
+good-begun : (p : Program) (m : Memory) → Accepted p m → Good p (plain (unmoved (begun m .answer .registers) (begun m .memory)))
 good-begun p m a =
     let at : (k : ℕ) → getD (sizeTests m) k true ≡ true = λ k. every-at (sizeTests m) k (a .sizes) in
     let some : 1 ≤ length (m .cells .bits) = leb-true _ _ (at 0) in
+    let x : Unbounded = unmoved (begun m .answer .registers) (begun m .memory) in
     let zero-cell : FairCell (p .count) (int 0) = fair-plain (p .count) 0 0 zero-le in
     record {
       sound =
-          facts-sound p (left (begun m) .registers) (zeroed m)
+          facts-sound p (plain x .registers) (plain x .memory)
           (record {
             table = a .table;
             some = some;
             few = leb-true _ _ (at 1);
-            short = leb-true _ _ (at 2);
+            short = zero-le;
             bits = length-replicate (length (m .cells .bits)) 0;
             tags = length-replicate (length (m .cells .tags)) 0 ∙ eqb-true _ _ (at 3);
-            history = length-replicate (length (m .history)) 0;
+            history = refl;
             sp = some;
             fbr = some;
             pc = zero-le;
@@ -96,16 +100,36 @@ good-begun p m a =
           });
       narrow = λ k. rw (zeros-at (length (m .cells .bits)) k) (lit< tt);
       blank =
-          record {
-            history = ap (λ (k : ℕ). replicate k 0) (sym (sub-zero (length (m .history))));
-            output = ap (λ (k : ℕ). replicate k 0) (sym (sub-zero _ ∙ length-replicate (length (m .output)) 0));
-          };
+          record { history = refl; output = ap (λ (k : ℕ). replicate k 0) (sym (sub-zero _ ∙ length-replicate (length (m .output)) 0)) };
     }
 
-module _ (p : Program) (m : Memory) (a : Accepted p m) where
-  pub good-reset : Good p (left (reset p m))
-  good-reset = subst (λ (o : Started). Good p (left o)) (sym (a .leaves)) (good-begun p m a)
+-- beside one of the same sizes but for the history, it holds no record
+held-begun : (m m′ : Memory) → SameSizes m m′
+    → left (begun m) ≡ held (length (m .history)) [] (unmoved (begun m′ .answer .registers) (begun m′ .memory))
+held-begun m m′ same =
+    ap {B = State} (λ (h : ℕ). record {
+      registers = cleared (length (m .cells .bits)) (length (m .history));
+      memory = record { cells = zeroed m .cells; history = replicate h 0; output = zeroed m .output };
+    }) (sym (sub-zero (length (m .history))))
+    ∙ rw (same .bits, same .tags, same .output) refl
 
-  -- "U to 0"
-  pub reset-empty : left (reset p m) .registers .used ≡ 0
-  reset-empty = ap (λ (o : Started). left o .registers .used) (a .leaves)
+-- ---- an origin, however it came about: o holds no record of x, which has made none and is good
+
+pub record Begins (p : Program) (o : State) (x : Unbounded) : Type 0 where
+  pub short : o .registers .h ≤ maxHistory
+  pub holds : o ≡ held (o .registers .h) [] x
+  pub none : x .records ≡ []
+  pub good : Good p (plain x)
+
+pub origin-begins : (p : Program) (o : State) (x : Unbounded) → Origin p o x → Begins p o x
+origin-begins p o x (byReset m m′ ready ready′ same leaves begins) =
+    let a : Accepted p m = reset-accepted p m ready in
+    let b : Accepted p m′ = reset-accepted p m′ ready′ in
+    subst (λ (t : State). Begins p t x) (sym (leaves ∙ ap left (a .leaves)))
+    (subst (Begins p (left (begun m))) (sym (begins ∙ ap (λ (y : Started). unmoved (y .answer .registers) (y .memory)) (b .leaves)))
+    (record {
+      short = leb-true (length (m .history)) maxHistory (every-at (sizeTests m) 2 (a .sizes));
+      holds = held-begun m m′ same;
+      none = refl;
+      good = good-begun p m′ b;
+    }))

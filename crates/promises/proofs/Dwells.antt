@@ -1,20 +1,23 @@
--- Request f: the door board reads what a fresh reset and S minus B steps would have left, and a trial that is taken back leaves what it reads alone; what it
--- reads lies between 10 and 300 tenths. Assumes nothing.
+-- Request f: the door board reads what the fresh run of S minus B steps would have left, and a trial that is taken back leaves what it reads alone, also where
+-- forgets came before it; what it reads lies between 10 and 300 tenths. Assumes nothing.
 use Prim.Native.Nat.{ℕ, _-_}
-use mathlib.Core.Path.{_≡_, sym, ap, ap₂, _∙_, subst}
+use mathlib.Core.Path.{_≡_, sym, ap, _∙_, subst}
+use mathlib.Core.Bool.{true}
 use mathlib.Core.List.{List, _++_}
 use native.Mathlib.Omega.{arith}
 use Rattle.rules.specs.Table.{Program}
-use Rattle.rules.specs.State.{Memory}
-use Rattle.rules.specs.Reset as Reset
+use Rattle.rules.specs.State.{Memory, sound}
 use Rattle.rules.specs.Dwell.{dwell}
 use Rattle.rules.specs.declared.Registers.{Registers}
-use Rattle.rules.specs.declared.Begun.the-variants.{Ready}
-use Rattle.rules.proofs.Dwells.{dwell-either}
-use Rattle.promises.specs.Series.{Request, Session, series, SameSizes, fresh, afresh, Promised}
-use Rattle.promises.specs.Dwells.{Held, ReadAfresh, TakenBack, LeftAlone}
+use Rattle.rules.proofs.Dwells.{dwell-either, dwell-others}
+use Rattle.promises.specs.Unbounded.{Unbounded, moved}
+use Rattle.promises.specs.Series.{Request, State, Session, stateOf, series, begin, Origin, ahead, freshRun, Promised}
+use Rattle.promises.specs.Dwells.{Held, readIn, readOff, ReadAfresh, Even, TakenBack, LeftAlone}
 use Rattle.promises.proofs.Counts.{series-from, series-then}
-use Rattle.promises.proofs.Demand3.{demand3-here, demand3}
+use Rattle.promises.proofs.Demand3Run.{plain}
+use Rattle.promises.proofs.Demand3Reset.{Begins, origin-begins}
+use Rattle.promises.proofs.Demand3Kept.{reached, Kept, run-reached, kept-series}
+use Rattle.promises.proofs.Demand3.{far-is, promised, same-held}
 
 -- ---- the ends
 
@@ -23,23 +26,48 @@ dwell-held p r m = dwell-either p r m Held (λ e. tt) (λ t h. h)
 
 -- ---- in a session
 
-module _ (p : Program) (m : Memory) (ready : Reset.reset p m .answer .begun ≡ Ready) where
-  -- (1) what is read after any series, or the refusal, is what is read after a fresh reset and S minus B steps
-  pub dwell-afresh : (other : Memory) → SameSizes m other → (qs : List Request) → ReadAfresh p other (series p qs (fresh p m))
-  dwell-afresh other same qs =
-      let w : Promised p other (series p qs (fresh p m)) = demand3 p m other ready same qs in
-      ap₂ (dwell p) (w .registers) (w .memory)
+module _ (p : Program) (o : State) (x : Unbounded) (origin : Origin p o x) where
+  begins : Begins p o x
+  begins = origin-begins p o x origin
 
-  -- (2) a trial that is taken back leaves the dwell alone
-  pub trial-taken-back : (before trial : List Request) → TakenBack p (series p before (fresh p m)) trial → LeftAlone p (series p before (fresh p m)) trial
-  trial-taken-back before trial even =
-      let s : Session = series p before (fresh p m) in
+  -- (1) what is read after any series, or the refusal, is what is read after the fresh run of S minus B steps
+  pub dwell-afresh : (qs : List Request) → ReadAfresh p x (series p qs (begin o))
+  dwell-afresh qs =
+      let s : Session = series p qs (begin o) in
+      let w : Kept p o x begins s = kept-series p o x begins qs in
+      let v : Promised p o x s = promised p o x begins s w in
+      let y : Unbounded = freshRun p x s in
+      let good : sound p (plain y .registers) (plain y .memory) ≡ true =
+      subst (λ (k : ℕ). sound p (plain (reached p o x begins k) .registers) (plain (reached p o x begins k) .memory) ≡ true) (far-is p o x begins s w)
+      (run-reached p o x begins (w .far) (w .makes) .good .sound) in
+      dwell-others p (s .registers) (s .memory) (plain y .registers) (plain y .memory) (v .sound) good (v .registers) (v .cells)
+
+  -- (2) what is read is left alone by whatever takes back as many steps as it makes, forgets among it
+  pub dwell-taken-back : (before trial : List Request) → Even p (series p before (begin o)) trial
+      → readIn p (series p trial (series p before (begin o))) ≡ readIn p (series p before (begin o))
+  dwell-taken-back before trial even =
+      let s : Session = series p before (begin o) in
       let t : Session = series p trial s in
-      let w : Promised p m s = demand3-here p m ready before in
-      let v : Promised p m t = subst (Promised p m) (series-then p before trial (fresh p m)) (demand3-here p m ready (before ++ trial)) in
       let made = ap (λ (u : Session). u .made) (series-from p trial s) in
       let undone = ap (λ (u : Session). u .undone) (series-from p trial s) in
-      let same : t .made - t .undone ≡ s .made - s .undone = omega (arith, made, undone, even) in
-      let registers : t .registers ≡ s .registers = v .registers ∙ ap (λ (k : ℕ). afresh p m k .registers) same ∙ sym (w .registers) in
-      let memory : t .memory ≡ s .memory = v .memory ∙ ap (λ (k : ℕ). afresh p m k .memory) same ∙ sym (w .memory) in
-      record { registers = registers; memory = memory; dwell = ap₂ (dwell p) registers memory }
+      let same : ahead t ≡ ahead s = omega (arith, made, undone, even) in
+      subst (ReadAfresh p x) (series-then p before trial (begin o)) (dwell-afresh (before ++ trial))
+      ∙ ap (λ (k : ℕ). readOff p (moved p k x)) same ∙ sym (dwell-afresh before)
+
+  -- (3) and a trial that is taken back, with nothing forgotten, leaves everything alone
+  pub trial-taken-back : (before trial : List Request) → TakenBack p (series p before (begin o)) trial → LeftAlone p (series p before (begin o)) trial
+  trial-taken-back before trial taken =
+      let s : Session = series p before (begin o) in
+      let t : Session = series p trial s in
+      let w : Kept p o x begins s = kept-series p o x begins before in
+      let v : Kept p o x begins t = subst (Kept p o x begins) (series-then p before trial (begin o)) (kept-series p o x begins (before ++ trial)) in
+      let made = ap (λ (u : Session). u .made) (series-from p trial s) in
+      let undone = ap (λ (u : Session). u .undone) (series-from p trial s) in
+      let forgotten = ap (λ (u : Session). u .forgotten) (series-from p trial s) in
+      let same : stateOf t ≡ stateOf s =
+      same-held p o x begins t s v w (omega (arith, made, undone, taken .0)) (omega (arith, forgotten, taken .1)) in
+      record {
+        registers = ap (λ (u : State). u .registers) same;
+        memory = ap (λ (u : State). u .memory) same;
+        dwell = ap (λ (u : State). dwell p (u .registers) (u .memory)) same;
+      }

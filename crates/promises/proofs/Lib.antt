@@ -2,11 +2,14 @@
 pub mod Unique
 pub mod Counts
 pub mod Runs
-pub mod Demand3Trail
+pub mod Demand3Good
+pub mod Demand3Run
+pub mod Demand3Held
 pub mod Demand3Reset
 pub mod Demand3Kept
-pub mod Demand3Number
 pub mod Demand3
+pub mod Agrees
+pub mod Whole
 pub mod ListingRound
 pub mod Listing
 pub mod Image

@@ -30,7 +30,7 @@ use Rattle.promises.proofs.Counts.{series-from}
 
 -- k steps made, with these registers and this memory
 abbrev pub standing : ℕ → Registers → Memory → Session
-standing k r m = record { registers = r; memory = m; made = k; undone = 0 }
+standing k r m = record { registers = r; memory = m; made = k; undone = 0; forgotten = 0 }
 
 -- k steps from these registers and this memory
 abbrev pub afterSteps : Program → ℕ → Registers → Memory → Session
@@ -46,12 +46,17 @@ steps-next : (p : Program) (k : ℕ) (r₀ r r′ : Registers) (m₀ m : Memory)
     → Step.step p r m .answer ≡ Next r′ → afterSteps p (k + 1) r₀ m₀ ≡ standing (k + 1) r′ (Step.step p r m .memory)
 steps-next p k r₀ r r′ m₀ m q e =
     ap (λ (n : ℕ). afterSteps p n r₀ m₀) (add-one k) ∙ steps-end p k (standing 0 r₀ m₀) ∙ ap (λ (s : Session). ask p s step) q
-    ∙ ap {B = Session} (λ (a : Step). record { registers = registersAfter r a; memory = Step.step p r m .memory; made = k + accepted a; undone = 0 }) e
+    ∙ ap {B = Session} (λ (a : Step). record { registers = registersAfter r a; memory = Step.step p r m .memory; made = k + accepted a; undone = 0; forgotten = 0 }) e
 
 -- steps take none back
-none-undone : (p : Program) (k : ℕ) (s : Session) → series p (replicate k step) s .undone ≡ s .undone
+pub none-undone : (p : Program) (k : ℕ) (s : Session) → series p (replicate k step) s .undone ≡ s .undone
 none-undone p zero s = refl
 none-undone p (suc k) s = none-undone p k (ask p s step)
+
+-- and forget none
+none-forgotten : (p : Program) (k : ℕ) (s : Session) → series p (replicate k step) s .forgotten ≡ s .forgotten
+none-forgotten p zero s = refl
+none-forgotten p (suc k) s = none-forgotten p k (ask p s step)
 
 -- ---- a run
 
@@ -128,5 +133,13 @@ run-within p limit s h l =
     let w : IsItsSteps p limit (s .registers) (s .memory) a = run-is-its-steps p limit (s .registers) (s .memory) h l in
     let none : s .undone + afterSteps p (a .answer .steps) (s .registers) (s .memory) .undone ≡ s .undone =
     ap (λ (n : ℕ). s .undone + n) (none-undone p (a .answer .steps) (fromHere s)) ∙ add-zero (s .undone) in
-    (λ i. record { registers = w .registers i; memory = w .memory i; made = s .made + sym (w .accepted) i; undone = sym none i })
+    let no-more : s .forgotten + afterSteps p (a .answer .steps) (s .registers) (s .memory) .forgotten ≡ s .forgotten =
+    ap (λ (n : ℕ). s .forgotten + n) (none-forgotten p (a .answer .steps) (fromHere s)) ∙ add-zero (s .forgotten) in
+    (λ i. record {
+      registers = w .registers i;
+      memory = w .memory i;
+      made = s .made + sym (w .accepted) i;
+      undone = sym none i;
+      forgotten = sym no-more i;
+    })
     ∙ sym (series-from p (replicate (a .answer .steps) step) s)

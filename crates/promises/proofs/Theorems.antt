@@ -38,9 +38,13 @@ use Rattle.promises.proofs.Runs.{run-is-its-steps}
 use Rattle.promises.proofs.Listing.{listing-assembles}
 -- "and a packed image unpacks to its table again."
 use Rattle.promises.proofs.Image.{image-unpacks}
--- ---- Demand 3: "registers, cells, tags and history equal those of a fresh reset of the same sizes followed by S minus B steps under demand 2."
+-- ---- Demand 3, as request i has it: "Cells, tags, registers other than H, U and the kept number, and output equal that run's .. the first U places are exactly the newest S minus B minus F records of that run"
 
 use Rattle.promises.proofs.Demand3.{demand3}
+-- "Demand 3's fresh run is now made with room for all its records": it does what a step does wherever there is room, and a machine with that room keeps up with it
+use Rattle.promises.proofs.Agrees.{agrees, keeps-up}
+-- where nothing is forgotten: "registers, cells, tags and history equal those of a fresh reset of the same sizes followed by S minus B steps under demand 2."
+use Rattle.promises.proofs.Whole.{demand3-whole, demand3-before}
 -- "a fresh reset of the same sizes": resets of memories of the same sizes leave the same; and the premise is met by every sound table and all sizes within "Sizes"
 use Rattle.promises.proofs.Demand3Reset.{reset-sized, reset-ready}
 -- "Step-back restores them, sets HALT 0 and zeroes the freed places": it undoes the step before it
@@ -69,7 +73,7 @@ use Rattle.rules.specs.Conversions.{all-conversions, all-told}
 use Rattle.promises.proofs.Tenths.{tenths-largest}
 use Rattle.promises.proofs.Dwells.{dwell-held}
 -- "a technician tries one, then steps it back": the board reads what a fresh run leaves, and a trial that is taken back leaves it alone
-use Rattle.promises.proofs.Dwells.{dwell-afresh, trial-taken-back}
+use Rattle.promises.proofs.Dwells.{dwell-afresh, dwell-taken-back, trial-taken-back}
 use Rattle.rules.specs.Doors.{all-read}
 -- ---- Request g: "How many steps can I take back?" `demand3` has the kept number, and so many step-backs are accepted
 
@@ -78,3 +82,8 @@ use Rattle.rules.specs.KeptNumbers.{all-kept}
 -- ---- Request h: "Demand 3 now includes output bytes and their count.": `demand3` and `inverse` have them, among the memory and the registers
 
 use Rattle.rules.specs.Characters.{all-characters}
+-- ---- Request i: "Add a call that forgets the k oldest kept steps, moves the rest down, and zeroes the room gained": `demand3`, `takes-back` and `trial-taken-back` have it
+
+use Rattle.rules.specs.Forgets.{all-forgettings}
+-- "the records in use" are what request g counts by their step places
+use Rattle.rules.proofs.Records.{steps-cut}

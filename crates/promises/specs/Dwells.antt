@@ -1,17 +1,18 @@
 -- Request f: "A dwell reader for the door board." What is promised of the dwell to whoever answers for the doors: which tenths a FLOAT is, between which ends a
 -- dwell lies, and that what was tried and taken back leaves it alone. proofs/Tenths.antt and proofs/Dwells.antt show it. Assumes nothing.
-use Prim.Native.Nat.{ℕ, _≤_, _-_}
+use Prim.Native.Nat.{ℕ, _≤_}
 use mathlib.Core.Path.{_≡_}
-use mathlib.Core.List.{List}
+use mathlib.Core.List.{List, []}
 use lib.IntN.{ℤ, pos, _*ℤ_}
 use lib.Signed.{_≤ℤ_}
 use Rattle.rules.specs.Exact.{scale, exact}
 use Rattle.rules.specs.Table.{Program}
-use Rattle.rules.specs.State.{Memory}
+use Rattle.rules.specs.State.{others}
 use Rattle.rules.specs.Dwell.{dwell}
 use Rattle.rules.specs.declared.Dwell.{Dwell}
 use Rattle.rules.specs.declared.Dwell.the-variants.{Tenths, Unread}
-use Rattle.promises.specs.Series.{Request, Session, series, fromHere, afresh}
+use Rattle.promises.specs.Unbounded.{Unbounded}
+use Rattle.promises.specs.Series.{Request, Session, series, fromHere, freshRun}
 
 -- ---- the tenths
 
@@ -31,13 +32,21 @@ Held (Unread e) = Unit {0}
 abbrev pub readIn : Program → Session → Dwell
 readIn p s = dwell p (s .registers) (s .memory)
 
--- the dwell, or its refusal, is the one read after a fresh reset and S minus B steps
-abbrev pub ReadAfresh : Program → Memory → Session → Type 0
-ReadAfresh p m s = readIn p s ≡ readIn p (afresh p m (s .made - s .undone))
+-- of a machine of no history, as the fresh run leaves it
+abbrev pub readOff : Program → Unbounded → Dwell
+readOff p x = dwell p (others (x .registers)) (record { cells = x .cells; history = []; output = x .output })
+
+-- the dwell, or its refusal, is the one read after the fresh run of S minus B steps
+abbrev pub ReadAfresh : Program → Unbounded → Session → Type 0
+ReadAfresh p x s = readIn p s ≡ readOff p (freshRun p x s)
 
 -- of the trial's requests as many step-backs as steps are accepted, counted from where it begins
+abbrev pub Even : Program → Session → List Request → Type 0
+Even p s trial = series p trial (fromHere s) .made ≡ series p trial (fromHere s) .undone
+
+-- and nothing is forgotten
 abbrev pub TakenBack : Program → Session → List Request → Type 0
-TakenBack p s trial = series p trial (fromHere s) .made ≡ series p trial (fromHere s) .undone
+TakenBack p s trial = Even p s trial × (series p trial (fromHere s) .forgotten ≡ 0)
 
 -- after the trial everything is as it was before it, and so is what is read: tenths or a refusal
 pub record LeftAlone (p : Program) (s : Session) (trial : List Request) : Type 0 where

@@ -1,5 +1,7 @@
 -- What the demands say, and what a request promises besides.
+pub mod Unbounded
 pub mod Series
+pub mod Agrees
 pub mod Refusals
 pub mod Addresses
 pub mod Dwells

@@ -1,6 +1,6 @@
 -- The dwell, answer by answer: tenths held between the shortest and the longest, and what is read of a machine. Assumes nothing.
-use mathlib.Core.Path.{_≡_, refl, ap, _∙_}
-use mathlib.Core.Bool.{true, false, not, _&&_, _||_}
+use mathlib.Core.Path.{_≡_, refl, sym, ap, ap₂, _∙_}
+use mathlib.Core.Bool.{Bool, true, false, not, _&&_, _||_}
 use Prim.Native.Nat.{ℕ, suc, _-_, _^_, _≤_, _<_}
 use native.Mathlib.Nat.{le-of-lt}
 use native.Mathlib.Omega.{arith}
@@ -12,9 +12,9 @@ use Rattle.rules.specs.Tags.{INT, FLOAT, has}
 use Rattle.rules.specs.Words.{signed}
 use Rattle.rules.specs.Exact.{negative, exponent, noValue, isNaN}
 use Rattle.rules.specs.Table.{Program}
-use Rattle.rules.specs.Cells.{cellAt}
-use Rattle.rules.specs.State.{Memory, sound}
-use Rattle.rules.specs.Dwell.{shortest, longest, held, wholeTenths, heldSeconds, tenthsOf, readCell, dwell}
+use Rattle.rules.specs.Cells.{Cells, cellAt}
+use Rattle.rules.specs.State.{Memory, others, sound}
+use Rattle.rules.specs.Dwell.{shortest, longest, held, wholeTenths, heldSeconds, tenthsOf, readIf, readCell, dwell}
 use Rattle.rules.specs.declared.Cell.{Cell}
 use Rattle.rules.specs.declared.Registers.{Registers}
 use Rattle.rules.specs.declared.Dwell.{Dwell}
@@ -139,3 +139,15 @@ module _ (p : Program) (r : Registers) (m : Memory) where
     where
       c : Cell
       c = cellAt (m .cells) (record { 0 = 0 })
+
+-- two sound machines that differ in H, U, the kept number and the history alone read the same
+pub dwell-others : (p : Program) (r : Registers) (m : Memory) (r′ : Registers) (m′ : Memory) → sound p r m ≡ true → sound p r′ m′ ≡ true
+    → others r ≡ others r′ → m .cells ≡ m′ .cells → dwell p r m ≡ dwell p r′ m′
+unfolding dwell
+dwell-others p r m r′ m′ s s′ e c =
+    ap₂ (λ (b : Bool) (k : Cells × Registers). reads b (k .0) (k .1)) (s ∙ sym s′) (λ i. (c i, e i))
+  where
+    reads : Bool → Cells → Registers → Dwell
+    reads b k q =
+        readIf b StateBroken
+        (readIf (eqb (q .halt) 1) NotHalted (readIf (not (eqb (q .sp) 0)) StackEmpty (readCell (cellAt k (record { 0 = 0 })))))

@@ -1,58 +1,36 @@
 -- A step-back undoes an accepted step exactly: cells with their tags, history and registers. Assumes nothing.
-use Prim.Native.Nat.{ℕ, zero, suc, _+_, _-_, _^_, _≤_, _<_, zero-le}
+use Prim.Native.Nat.{ℕ, zero, suc, _+_, _-_, _^_, _≤_, _<_}
 use mathlib.Core.Path.{_≡_, refl, sym, ap, ap₂, _∙_, subst}
 use mathlib.Core.Bool.{Bool, true, false, not, _&&_, _||_, cond}
 use mathlib.Core.List.{List, [], _∷_, _++_, append-assoc}
 use native.Mathlib.Omega.{arith}
-use lib.Dec.{lit<, ltb}
-use lib.ListN.{length, getD, take, drop, set, replicate, length-append, length-drop}
+use lib.Dec.{ltb}
+use lib.ListN.{length, getD, take, drop, set, replicate, length-append}
 use lib.Seq.{sets, take-at, getD-at, drop-drop, getD-drop}
-use borrow.Author.Tests.{leb-true, eq-eqb, ne-eqb, lt-ltb, le-leb}
+use borrow.Author.Tests.{leb-true, ne-eqb, lt-ltb}
 use Rattle.rules.specs.Lists.{part, splice}
 use Rattle.rules.specs.Sizes.{maxCells}
-use Rattle.rules.specs.Places.{cellPlace, stepPlace, mark, cellAddress, cellTag, cellBits, cellZeros, stepPc, stepSp, stepFbr, stepCount, stepZeros}
+use Rattle.rules.specs.Places.{cellPlace, stepPlace, cellTag, cellBits, stepPc, stepSp, stepFbr, stepCount}
 use Rattle.rules.specs.Table.{Program}
-use Rattle.rules.specs.State.{Memory, soundCell, sound}
+use Rattle.rules.specs.State.{Memory, sound}
 use Rattle.rules.specs.Commit.{block, cellPlaces, cellsKept, recordOf, keeps, grown, historyAfter, registersWith, registersOf, writtenAfter, outputAfter, cellsAfter, memoryOf, roomOn, roomIn, roomFor}
 use Rattle.rules.specs.Step.{judged, unchanged}
-use Rattle.rules.specs.Back.{topPlace, formedCell, formedCells, formedStep, formedTop, showsAt, canDrop, restored, undoneAt, undone, plainBack, back}
+use Rattle.rules.specs.Records.{formedRecord}
+use Rattle.rules.specs.Back.{topRecord, topPlace, formedTop, showsAt, canDrop, restored, undoneAt, undone, plainBack, back}
 use Rattle.rules.specs.declared.Registers.{Registers}
 use Rattle.rules.specs.declared.Effect.{Effect}
 use Rattle.rules.specs.declared.Decision.the-variants.{Does}
 use Rattle.rules.specs.declared.MachineRefusal.the-variants.{Broken}
 use Rattle.rules.specs.declared.Step.the-variants.{Next}
 use Rattle.rules.proofs.Zeros.{take-zeros, drop-zeros}
-use Rattle.rules.proofs.Places.{cellAddress-of, cellTag-of, cellBits-of, cellMark-of, cellZeros-of, stepPc-of, stepSp-of, stepFbr-of, stepCount-of, stepMark-of, stepZeros-of}
+use Rattle.rules.proofs.Places.{cellAddress-of, cellTag-of, cellBits-of, stepPc-of, stepSp-of, stepFbr-of, stepCount-of}
 use Rattle.rules.proofs.Splice.{length-part, drop-splice, rest-splice, length-splice, splice-back, sets-splice}
 use Rattle.rules.proofs.Fair.{Sound, Going, Fair, Narrow, Blank}
 use Rattle.rules.proofs.FairEffects.{sound-facts, judged-going, going-below, fair-judged}
 use Rattle.rules.proofs.Table.{table-short}
 use Rattle.rules.proofs.Panel.{isShown, written-back, output-back, blank-output, drops, shows-at}
-use Rattle.rules.proofs.Sound.{cell-sound, output-length, Each, each-take, each-drop, length-block, length-kept, length-record, sound-judged}
-
--- ---- cells that a place can keep: sound ones of 32 bits
-
-record Keepable (count t b : ℕ) : Type 0 where
-  tag : t < 2 ^ 3
-  bits : b < 2 ^ 32
-  sound : soundCell count t b ≡ true
-
-keepable-zero : (count : ℕ) → Keepable count 0 0
-keepable-zero count = record { tag = lit< tt; bits = lit< tt; sound = refl }
-
-keepable : (p : Program) (r : Registers) (m : Memory) → Sound p r m → Narrow m → (i n : ℕ)
-    → Each (Keepable (p .count)) (part i n (m .cells .tags)) (part i n (m .cells .bits))
-keepable p r m s w i n =
-    let even : length (m .cells .tags) ≡ length (m .cells .bits) = s .tags ∙ sym (s .bits) in
-    each-take (Keepable (p .count)) (keepable-zero (p .count)) n (drop i (m .cells .tags)) (drop i (m .cells .bits))
-    (length-drop i (m .cells .tags) ∙ ap (λ (k : ℕ). k - i) even ∙ sym (length-drop i (m .cells .bits)))
-    (each-drop (Keepable (p .count)) (keepable-zero (p .count)) i (m .cells .tags) (m .cells .bits)
-    (λ k.
-    record {
-      tag = omega (arith, s .cells k .tag);
-      bits = w k;
-      sound = cell-sound (p .count) (record { bits = getD (m .cells .bits) k 0; tag = getD (m .cells .tags) k 0 }) (s .cells k);
-    }))
+use Rattle.rules.proofs.Sound.{output-length, Each, length-block, length-kept, length-record, sound-judged}
+use Rattle.rules.proofs.Formed.{Keepable, keepable, WellFormed, places-well}
 
 -- ---- what cell places keep, put back from address a on
 
@@ -85,32 +63,6 @@ module _ (count : ℕ) (old : ℕ → ℕ) (f : ℕ → ℕ → ℕ)
       ap₂ (λ (x y : ℕ). restored old (cellPlaces (suc a) ts bs) (set l x y)) (cellAddress-of a t b low (c zero .tag) (c zero .bits))
       (reads a t b low (c zero .tag) (c zero .bits))
       ∙ restored-sets (suc a) ts bs (set l a (f t b)) (omega arith) (λ k. c (suc k))
-
--- ---- the record that a step writes is well formed
-
-step-formed : (n count u q : ℕ) → mark q ≡ 1 → stepZeros q ≡ 0 → stepPc q < count → stepSp q < n → stepFbr q < n → stepCount q < u
-    → formedStep n count u q ≡ true
-step-formed n count u q h1 h2 h3 h4 h5 h6 =
-    simp (eq-eqb _ _ h1, eq-eqb _ _ h2, lt-ltb _ _ h3, lt-ltb _ _ h4, lt-ltb _ _ h5, lt-ltb _ _ h6)
-
-cell-formed : (n count low q : ℕ) → mark q ≡ 0 → cellZeros q ≡ 0 → low ≤ cellAddress q → cellAddress q < n
-    → soundCell count (cellTag q) (cellBits q) ≡ true → formedCell n count low q ≡ true
-cell-formed n count low q h1 h2 h3 h4 h5 =
-    simp (eq-eqb _ _ h1, eq-eqb _ _ h2, le-leb _ _ h3, lt-ltb _ _ h4, h5)
-
-cells-formed : (n count low a : ℕ) (ts bs : List ℕ) → low ≤ a → a + length bs ≤ n → n ≤ maxCells → Each (Keepable count) ts bs
-    → formedCells n count low (cellPlaces a ts bs) ≡ true
-cells-formed n count low a [] bs hl hn few c = refl
-cells-formed n count low a (t ∷ ts) [] hl hn few c = refl
-cells-formed n count low a (t ∷ ts) (b ∷ bs) hl hn few c =
-    let ha : a < 2 ^ 10 = omega arith in
-    let ht : t < 2 ^ 3 = c zero .tag in
-    let hb : b < 2 ^ 32 = c zero .bits in
-    let ea : cellAddress (cellPlace a t b) ≡ a = cellAddress-of a t b ha ht hb in
-    ap₂ _&&_
-    (cell-formed n count low (cellPlace a t b) (cellMark-of a t b) (cellZeros-of a t b ha ht hb) (omega arith) (omega arith)
-    (ap₂ (soundCell count) (cellTag-of a t b ha ht hb) (cellBits-of a t b ha ht hb) ∙ c zero .sound))
-    (cells-formed n count (cellAddress (cellPlace a t b) + 1) (suc a) ts bs (omega arith) (omega arith) few (λ k. c (suc k)))
 
 -- ---- what a step-back finds of a record on top: n cell places cs, and the step place q
 module _ (h : List ℕ) (u n : ℕ) (cs : List ℕ) (q : ℕ) (lc : length cs ≡ n) (room : u + (n + 1) ≤ length h) where
@@ -208,19 +160,22 @@ module _ (p : Program) (r : Registers) (m : Memory) (e : Effect) (s : Sound p r 
   count-is : stepCount (topPlace (registersKept r e) (memoryKept r m e)) ≡ e .count
   count-is = ap stepCount top-is ∙ stepCount-of (r .pc) (r .sp) (r .fbr) (e .count) hp hs hf hc
 
-  -- the record is well formed
+  -- the record is found on top, and well formed
+  record-is : topRecord (registersKept r e) (memoryKept r m e)
+      ≡ record { cells = cellsKept (m .cells) e; place = made; below = r .used + (e .count + 1) - 1 }
+  record-is =
+      λ i. record {
+        cells = (ap (λ (k : ℕ). part (r .used + (e .count + 1) - 1 - k) k (memoryKept r m e .history)) count-is ∙ cells-are) i;
+        place = top-is i;
+        below = r .used + (e .count + 1) - 1;
+      }
+
   formed-kept : formedTop p (registersKept r e) (memoryKept r m e) ≡ true
   formed-kept =
-      let top : ℕ = topPlace (registersKept r e) (memoryKept r m e) in
-      ap₂ _&&_
-      (step-formed (r .n) (p .count) (r .used + (e .count + 1)) top
-      (ap mark top-is ∙ stepMark-of (r .pc) (r .sp) (r .fbr) (e .count))
-      (ap stepZeros top-is ∙ stepZeros-of (r .pc) (r .sp) (r .fbr) (e .count) hp hs hf hc)
-      (omega (arith, pc-is)) (omega (arith, sp-is, s .sp)) (omega (arith, fbr-is, s .fbr)) (omega (arith, count-is)))
-      (ap (formedCells (r .n) (p .count) 0)
-      (ap (λ (k : ℕ). part (r .used + (e .count + 1) - 1 - k) k (memoryKept r m e .history)) count-is ∙ cells-are)
-      ∙ cells-formed (r .n) (p .count) 0 (e .at) (part (e .at) (e .count) (m .cells .tags)) (part (e .at) (e .count) (m .cells .bits)) zero-le
-      (omega (arith, old-bits)) (s .few) old)
+      let f : WellFormed (r .n) (p .count) (cellsKept (m .cells) e) made = places-well p r m e s w below fits in
+      let lies : length (cellsKept (m .cells) e) ≤ r .used + (e .count + 1) - 1 = omega (arith, length-kept m e fits-tags fits-bits) in
+      ap (formedRecord (r .n) (p .count)) record-is
+      ∙ ap₂ _&&_ (f .step (r .used + (e .count + 1) - 1) lies) (f .restores)
 
   -- a list of N cells, written over by ws, has its old numbers again
   cells-back : (read : ℕ → ℕ) (f : ℕ → ℕ → ℕ) → ((a t b : ℕ) → a < 2 ^ 10 → t < 2 ^ 3 → b < 2 ^ 32 → read (cellPlace a t b) ≡ f t b)

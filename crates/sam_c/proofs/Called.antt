@@ -8,14 +8,17 @@ use Rattle.rules.specs.State.{Memory, memory}
 use Rattle.rules.specs.Reset.{Started}
 use Rattle.rules.specs.Step.{Stepped}
 use Rattle.rules.specs.Run.{Ran}
-use Rattle.rules.specs.Numbers.{numberOfReset, numberOfStep, registersAfter, numberOfEnding, numberOfDwell, tenthsOfDwell}
+use Rattle.rules.specs.Forget.{Forgets}
+use Rattle.rules.specs.Numbers.{numberOfReset, numberOfStep, registersAfter, numberOfEnding, numberOfDwell, tenthsOfDwell, numberOfForgot, registersForgot}
 use Rattle.rules.specs.declared.Registers.{Registers}
 use Rattle.rules.specs.declared.Reset.{Reset}
 use Rattle.rules.specs.declared.Step.{Step}
 use Rattle.rules.specs.declared.Run.{Run}
 use Rattle.rules.specs.declared.Dwell.{Dwell}
+use Rattle.rules.specs.declared.Forgot.{Forgot}
 use Rattle.state.specs.Outcomes.{started, stepped}
-use Rattle.sam_c.specs.Calls.{Filled, Moved, filled, moved, ofLength, notItsLength, untold, registerCount, listOf, registersOf, resetMoved, stepMoved, Walked, walked, runWalked, Answered, answered, dwellAnswered}
+use Rattle.forget.specs.Outcomes.{forgot}
+use Rattle.sam_c.specs.Calls.{Filled, Moved, filled, moved, ofLength, notItsLength, untold, registerCount, listOf, registersOf, resetMoved, stepMoved, forgetMoved, Walked, walked, runWalked, Answered, answered, dwellAnswered}
 use Rattle.sam_c.proofs.Lent.{of-length, of-another}
 
 -- a call that fills an output, whose answer is a′ and which leaves out′
@@ -45,6 +48,16 @@ module _ (l : List ℕ) (h : length l ≡ registerCount) (instead : Moved) where
       (λ i. moved (ek i) ((el ∙ ap listOf en) i) (memory bits tags history output))
       ∙ ap (stepMoved r) es
       ∙ ap (λ (q : Registers). stepMoved q (f q)) er
+      ∙ sym (of-length registerCount l _ _ h)
+
+  -- a forget f, which answers a
+  pub forget-called : (f : Registers → Forgets) {k : ℕ} {r next : Registers} {a : Forgot} {registers bits tags history output : List ℕ} → r ≡ registersOf l
+      → forgot a bits tags history output ≡ f r → next ≡ registersForgot r a → registers ≡ listOf next → k ≡ numberOfForgot a
+      → moved k registers (memory bits tags history output) ≡ ofLength registerCount l (forgetMoved (registersOf l) (f (registersOf l))) instead
+  forget-called f {r = r} {bits = bits} {tags = tags} {history = history} {output = output} er es en el ek =
+      (λ i. moved (ek i) ((el ∙ ap listOf en) i) (memory bits tags history output))
+      ∙ ap (forgetMoved r) es
+      ∙ ap (λ (q : Registers). forgetMoved q (f q)) er
       ∙ sym (of-length registerCount l _ _ h)
 
 -- a run f, which answers a and leaves m

@@ -17,8 +17,9 @@ use Rattle.rules.specs.Reset.{Started, sizeTests, reset}
 use Rattle.rules.specs.Step.{Stepped, step}
 use Rattle.rules.specs.Back.{back}
 use Rattle.rules.specs.Run.{Ran, run}
+use Rattle.rules.specs.Forget.{Forgets, forget}
 use Rattle.rules.specs.Dwell.{dwell}
-use Rattle.rules.specs.Numbers.{machineNumber, textNumber, numberOfAssembled, lengthOfAssembled, positionOfAssembled, numberOfListed, lengthOfListed, numberOfPacked, lengthOfPacked, numberOfReset, numberOfStep, registersAfter, numberOfEnding, numberOfDwell, tenthsOfDwell}
+use Rattle.rules.specs.Numbers.{machineNumber, textNumber, numberOfAssembled, lengthOfAssembled, positionOfAssembled, numberOfListed, lengthOfListed, numberOfPacked, lengthOfPacked, numberOfReset, numberOfStep, registersAfter, numberOfEnding, numberOfDwell, tenthsOfDwell, numberOfForgot, registersForgot}
 use Rattle.rules.specs.declared.Position.{Position}
 use Rattle.rules.specs.declared.Registers.{Registers}
 use Rattle.rules.specs.declared.Dwell.{Dwell}
@@ -155,6 +156,14 @@ stepCall p registers m =
 abbrev pub backCall : Program → List ℕ → Memory → Moved
 backCall p registers m =
     ofLength registerCount registers (stepMoved (registersOf registers) (back p (registersOf registers) m)) (moved broken registers m)
+
+-- "a refusal changes nothing" (02 i)
+abbrev pub forgetMoved : Registers → Forgets → Moved
+forgetMoved r f = moved (numberOfForgot (f .answer)) (listOf (registersForgot r (f .answer))) (f .memory)
+
+abbrev pub forgetCall : Program → ℕ → List ℕ → Memory → Moved
+forgetCall p k registers m =
+    ofLength registerCount registers (forgetMoved (registersOf registers) (forget p k (registersOf registers) m)) (moved broken registers m)
 
 -- "It also tells the number of steps it made."
 abbrev pub runWalked : Ran → Walked

@@ -11,7 +11,7 @@ use Rattle.rules.specs.Sizes.{maxProgram, maxHistory, maxOutput, maxLimit, list
 use Rattle.rules.specs.Table.{program}
 use Rattle.rules.specs.State.{Memory, memory}
 use Rattle.rules.specs.Examples.{programOf, holds}
-use Rattle.sam_c.specs.Calls.{Filled, Moved, ofLength, assembleCall, listCall, packCall, unpackCall, resetCall, runCall}
+use Rattle.sam_c.specs.Calls.{Filled, Moved, ofLength, assembleCall, listCall, packCall, unpackCall, resetCall, forgetCall, runCall}
 
 -- what stood in every lent place before
 abbrev old : ℕ → List ℕ
@@ -40,6 +40,12 @@ resets number registers bits tags history output =
     let m = memory (old bits) (old tags) (old history) (old output) in
     stays (resetCall (programOf "STOP") (old registers) m) number (old registers) m
 
+-- a forget of k with so many registers
+abbrev forgets : (number k registers : ℕ) → Bool
+forgets number k registers =
+    let m = memory (old 2) (old 2) (old 3) (old 2) in
+    stays (forgetCall (programOf "STOP") k (old registers) m) number (old registers) m
+
 -- a run with that limit, so many registers and so many values to tell, which are told as these
 abbrev runs : (number limit registers : ℕ) (told after : List ℕ) → Bool
 runs number limit registers told after =
@@ -66,6 +72,9 @@ lengths =
     ∷ resets 11 8 1 1 2 (maxOutput + 1)
     ∷ resets 10 8 1 1 0 maxOutput
     ∷ resets 10 0 1 1 2 0
+    -- "10 first", whatever k is (02 i)
+    ∷ forgets 10 0 8
+    ∷ forgets 10 18446744073709551615 10
     -- "Run: 11, then 10."; what is told comes before both
     ∷ runs 11 (maxLimit + 1) 8 (old 1) (zeros 1)
     ∷ runs 10 maxLimit 8 (old 1) (zeros 1)

@@ -1,9 +1,10 @@
 // The nine registers in a lent slice, in the order N, H, PC, SP, FBR, HALT, U, kept, written.
+use rules::Forgot;
 use rules::Registers;
 use rules::Step;
 ghost use mathlib.Core.Path.{_≡_};
 ghost use lib.ListN.{length};
-ghost use Rattle.rules.specs.Numbers.{registersAfter};
+ghost use Rattle.rules.specs.Numbers.{registersAfter, registersForgot};
 ghost use Rattle.sam_c.specs.Calls.{notRegisters, registerCount, listOf, registersOf};
 
 // How many there are.
@@ -66,5 +67,15 @@ pub(crate) fn after(r: Registers, step: Step) -> Registers
     match step {
         Step::Next(next) => next,
         Step::Refused(_) => r,
+    }
+}
+
+// Those after a forget: where it is refused, those before it.
+pub(crate) fn after_forget(r: Registers, forgot: Forgot) -> Registers
+    ensures { λ a. ⌜ a ≡ registersForgot r forgot ⌝ }
+{
+    match forgot {
+        Forgot::Forgotten(fewer) => fewer,
+        Forgot::NotForgotten(_) => r,
     }
 }

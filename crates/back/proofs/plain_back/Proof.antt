@@ -26,7 +26,7 @@ abbrev some : tie.Else2 → tie.Else1
 some c = c .before .before .before
 
 formed : (c : tie.Else2) → formedTop (handed (start (some c))) (start (some c) .args .r) (lent (start (some c))) ≡ true
-formed c = sym (c .before .is-formed-top .ensures) ∙ not-false _ (c .if2 .left)
+formed c = sym (c .before .is-formed-record .ensures) ∙ not-false _ (c .if2 .left)
 
 -- ---- the needs
 
@@ -35,8 +35,11 @@ returns c =
     let s = c .before .before .before .before .before .before in
     sym (back-none (handed s) (s .args .r) (lent s) (c .if1 .taken))
 
-is-formed-top-requires : tie.Need-is-formed-top-requires
-is-formed-top-requires c κs = search needs
+sub-last : tie.Need-sub-last
+sub-last c = search needs
+
+is-formed-record-requires : tie.Need-is-formed-record-requires
+is-formed-record-requires c κs = search needs
 
 same-length : tie.Need-same-length
 same-length c = search needs
@@ -45,10 +48,7 @@ returns-2 : tie.Need-returns-2
 returns-2 c =
     let at-some = c .before .before .before in
     let s = start at-some in
-    sym (back-unformed (handed s) (s .args .r) (lent s) (at-some .if1 .left) (sym (c .before .is-formed-top .ensures) ∙ not-true _ (c .if2 .taken)))
-
-sub-last : tie.Need-sub-last
-sub-last c = search needs
+    sym (back-unformed (handed s) (s .args .r) (lent s) (at-some .if1 .left) (sym (c .before .is-formed-record .ensures) ∙ not-true _ (c .if2 .taken)))
 
 mul-top : tie.Need-mul-top
 mul-top c = search needs
@@ -87,7 +87,7 @@ undo-requires c κs =
     let at-shows = at-drops .before .before in
     let at-formed = at-shows .before .before .before in
     let s = start (some at-formed) in
-    undoable (handed s) (s .args .r) (lent s) (formed at-formed) (at-shows .shows-at .result) (s .pre)
+    undoable (handed s) (s .args .r) (lent s) (formed at-formed) (at-shows .shows-at .result) (some at-formed .if1 .left) (s .pre)
     (sym (at-drops .before .can-drop .ensures) ∙ not-false _ (at-drops .if3 .left))
 
 same-length-3 : tie.Need-same-length-3
@@ -120,10 +120,10 @@ plain-back-spec =
     tie.close
     (tie.spec
     returns
-    is-formed-top-requires
+    sub-last
+    is-formed-record-requires
     same-length
     returns-2
-    sub-last
     mul-top
     slice-read-top
     step-pc-requires

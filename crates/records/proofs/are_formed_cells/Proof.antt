@@ -1,4 +1,5 @@
--- `back::are_formed_cells` meets its contract. The loop's invariant: all cell places are well formed exactly where those left are, from the address after the last one on. Assumes nothing.
+-- `records::are_formed_cells` meets its contract. The loop's invariant: all cell places are well formed exactly where those left are, from the address after the
+-- last one on. Assumes nothing.
 use Prim.Native.Nat.{ℕ, _+_, _-_, _≤_}
 use mathlib.Core.Path.{_≡_, sym, ap, _∙_}
 use mathlib.Core.Bool.{true, false}
@@ -6,11 +7,11 @@ use native.Mathlib.Omega.{arith}
 use borrow.Author.Needs.{needs}
 use borrow.Author.Tests.{not-true, not-false}
 use lib.ListN.{length, getD, drop}
-use Rattle.rules.specs.Back.{formedCells}
+use Rattle.rules.specs.Records.{formedCells}
 use Rattle.rules.proofs.Places.{cellAddress-is}
-use Rattle.back.proofs.Cells.{formed-next, formed-done}
-use Rattle.back.proofs.are_formed_cells.Statement.{statement}
-use Rattle.back.proofs.are_formed_cells.Tie as tie
+use Rattle.records.proofs.Formed.{formed-next, formed-done}
+use Rattle.records.proofs.are_formed_cells.Statement.{statement}
+use Rattle.records.proofs.are_formed_cells.Tie as tie
 
 abbrev Inv-loop : tie.InvT-loop
 Inv-loop cells n count low₀ i₀ low i = (i ≤ length cells) × (formedCells n count low (drop i cells) ≡ formedCells n count 0 cells)
@@ -43,7 +44,9 @@ cell-address-requires : tie.Need-cell-address-requires Inv-loop μ-loop
 cell-address-requires c κs = search needs
 
 add-low : tie.Need-add-low Inv-loop μ-loop
-add-low c = omega (arith, c .cell-address .ensures, cellAddress-is (getD (c .before .before .before .before .before .before .before .args .cells .now) (c .before .before .before .before .before .loop .i) 0))
+add-low c =
+    let at-loop = c .before .before .before .before .before in
+    omega (arith, c .cell-address .ensures, cellAddress-is (getD (at-loop .before .before .args .cells .now) (at-loop .loop .i) 0))
 
 add-i : tie.Need-add-i Inv-loop μ-loop
 add-i c = search needs

@@ -1,4 +1,4 @@
--- `back::is_formed_cell` meets its contract: each early return is one test that fails. Assumes nothing.
+-- `records::is_formed_cell` meets its contract: each early return is one test that fails. Assumes nothing.
 use Prim.Native.Nat.{ℕ}
 use mathlib.Core.Path.{sym, ap, ap₂, _∙_}
 use mathlib.Core.Bool.{and-true}
@@ -6,10 +6,10 @@ use borrow.Author.Needs.{needs}
 use borrow.Author.Tests.{lt-ltb, le-ltb, le-leb, lt-leb, eq-eqb, ne-eqb}
 use lib.Dec.{eqb, leb, ltb}
 use Rattle.rules.specs.State.{soundCell}
-use Rattle.rules.specs.Back.{cellTests}
+use Rattle.rules.specs.Records.{cellTests}
 use Rattle.rules.proofs.Tests.{every-false, and-then}
-use Rattle.back.proofs.is_formed_cell.Statement.{statement}
-use Rattle.back.proofs.is_formed_cell.Tie as tie
+use Rattle.records.proofs.is_formed_cell.Statement.{statement}
+use Rattle.records.proofs.is_formed_cell.Tie as tie
 
 cell-address-requires : tie.Need-cell-address-requires
 cell-address-requires c κs = search needs
@@ -32,13 +32,19 @@ returns-2 c =
 
 returns-3 : tie.Need-returns-3
 returns-3 c =
-    let a = c .before .before .before .before .before .before .args in
-    sym (every-false (cellTests (a .n) (a .count) (a .low) (a .place)) 2 (ap (λ (k : ℕ). leb (a .low) k) (sym (c .before .before .before .before .before .cell-address .ensures)) ∙ lt-leb _ _ (c .if3 .taken)))
+    let at-address = c .before .before .before .before .before in
+    let a = at-address .before .args in
+    sym
+    (every-false (cellTests (a .n) (a .count) (a .low) (a .place)) 2
+    (ap (λ (k : ℕ). leb (a .low) k) (sym (at-address .cell-address .ensures)) ∙ lt-leb _ _ (c .if3 .taken)))
 
 returns-4 : tie.Need-returns-4
 returns-4 c =
-    let a = c .before .before .before .before .before .before .before .args in
-    sym (every-false (cellTests (a .n) (a .count) (a .low) (a .place)) 3 (ap (λ (k : ℕ). ltb k (a .n)) (sym (c .before .before .before .before .before .before .cell-address .ensures)) ∙ le-ltb _ _ (c .if4 .taken)))
+    let at-address = c .before .before .before .before .before .before in
+    let a = at-address .before .args in
+    sym
+    (every-false (cellTests (a .n) (a .count) (a .low) (a .place)) 3
+    (ap (λ (k : ℕ). ltb k (a .n)) (sym (at-address .cell-address .ensures)) ∙ le-ltb _ _ (c .if4 .taken)))
 
 cell-tag-requires : tie.Need-cell-tag-requires
 cell-tag-requires c κs = search needs

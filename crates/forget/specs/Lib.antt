@@ -1,0 +1,2 @@
+-- A forget's answer with what it leaves.
+pub mod Outcomes

@@ -1,0 +1,37 @@
+-- Request i: the fresh run, whose room no refusal judges, does what `step` does wherever a history has room. proofs/Agrees.antt shows it. Assumes nothing.
+use Prim.Native.Nat.{ℕ, _≤_, _<_}
+use mathlib.Core.Path.{_≡_}
+use lib.ListN.{length}
+use Rattle.rules.specs.Table.{Program}
+use Rattle.rules.specs.State.{others}
+use Rattle.rules.specs.Commit.{recordOf, registersOf, memoryOf}
+use Rattle.rules.specs.Records.{placesOf}
+use Rattle.rules.specs.Step.{inHistory, carried}
+use Rattle.rules.specs.Step as Step
+use Rattle.rules.specs.declared.Effect.{Effect}
+use Rattle.rules.specs.declared.Decision.the-variants.{Does, Refuses}
+use Rattle.rules.specs.declared.MachineRefusal.the-variants.{HistoryFull}
+use Rattle.promises.specs.Unbounded.{Unbounded, moves, decided, moved}
+use Rattle.promises.specs.Series.{State, afresh}
+
+-- a machine in whose state "Cells, tags, registers other than H, U and the kept number, and output equal that run's"
+pub record Shows (x : Unbounded) (s : State) : Type 0 where
+  pub registers : others (s .registers) ≡ others (x .registers)
+  pub cells : s .memory .cells ≡ x .cells
+  pub output : s .memory .output ≡ x .output
+
+-- what a step of such a machine does
+pub record Agrees (p : Program) (x : Unbounded) (s : State) : Type 0 where
+  -- what the run decides, asked for room and carried out: so it is done wherever there is room, or no history, and 8 where there is none; else the run's refusal
+  pub steps : Step.step p (s .registers) (s .memory) ≡ carried (s .registers) (s .memory) (inHistory (s .registers) (decided p x))
+  -- which is never an 8
+  pub never : decided p x ≡ Refuses HistoryFull → ⊥
+  -- what is done keeps the same record, and leaves the same again
+  pub keeps : (e : Effect) → recordOf (s .registers) (s .memory .cells) e ≡ recordOf (x .registers) (x .cells) e
+  pub shows : (e : Effect)
+      → Shows (moves x (Does e)) (record { registers = registersOf (s .registers) e; memory = memoryOf (s .registers) (s .memory) e })
+
+-- k steps of the run, each of them made, are k accepted steps of a machine that begins alike, where its history has room for all their records, or it has none
+abbrev pub KeepsUp : Program → State → Unbounded → ℕ → Type 0
+KeepsUp p o x k =
+    length (moved p k x .records) ≡ k → (0 < o .registers .h → length (placesOf (moved p k x .records)) ≤ o .registers .h) → afresh p o k .made ≡ k

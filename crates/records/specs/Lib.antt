@@ -1,0 +1,2 @@
+-- What a walk over the records in use finds.
+pub mod Walks
