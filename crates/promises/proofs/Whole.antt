@@ -16,7 +16,8 @@ use Rattle.rules.specs.Reset as Reset
 use Rattle.rules.specs.declared.MachineRefusal.the-variants.{NoHistory}
 use Rattle.rules.specs.declared.Begun.the-variants.{Ready}
 use Rattle.promises.specs.Unbounded.{Unbounded, unmoved}
-use Rattle.promises.specs.Series.{Request, step, run, back, forget, State, Session, stateOf, ask, series, begin, left, SameSizes, Origin, reset, ahead, Promised, NoForgets, afresh, Whole}
+use Rattle.promises.specs.Series.{Request, step, run, back, forget, State, Session, stateOf, ask, series, begin, left, SameSizes, Origin, reset, afresh, ahead, Promised}
+use Rattle.promises.specs.Whole.{NoForgets, Whole}
 use Rattle.promises.proofs.Runs.{standing}
 use Rattle.promises.proofs.Demand3Held.{held}
 use Rattle.promises.proofs.Demand3Reset.{Begins, origin-begins, reset-sized}

@@ -2,8 +2,7 @@
 -- refused ones among them, with program, registers and memory handed back untouched between calls. If S steps (those inside runs too) and B step-backs were
 -- accepted, ..". Request i: "Demand 3's series now has these calls too. If F is the sum of the k of those accepted, step-back is now refused exactly when S minus B
 -- equals F (or H = 0). Demand 3's fresh run is now made with room for all its records ..". Here is what they say, with request g's "How many steps can I take
--- back?", and demand 3 as it was, which is still so where nothing is forgotten; proofs/Demand3.antt, proofs/Whole.antt and proofs/TakesBack.antt show it. Assumes
--- nothing.
+-- back?"; proofs/Demand3.antt and proofs/TakesBack.antt show it. Assumes nothing.
 use Prim.Native.Nat.{ℕ, _+_, _-_, _≤_, _<_, min}
 use mathlib.Core.Path.{_≡_}
 use mathlib.Core.Bool.{true, _||_, cond}
@@ -124,6 +123,10 @@ begin o = record { registers = o .registers; memory = o .memory; made = 0; undon
 abbrev pub fromHere : Session → Session
 fromHere s = begin (stateOf s)
 
+-- k steps of the machine itself
+abbrev pub afresh : Program → State → ℕ → Session
+afresh p o k = series p (replicate k step) (begin o)
+
 -- ---- where a series begins
 
 -- what a reset leaves
@@ -191,32 +194,3 @@ pub record Promised (p : Program) (o : State) (x : Unbounded) (s : Session) : Ty
 -- request g: "How many steps can I take back?" Of so many step-backs one after the other, the kept number is accepted, or all of them where they are fewer
 abbrev pub TakesBack : Program → Session → Type 0
 TakesBack p s = (k : ℕ) → series p (replicate k back) s .undone ≡ s .undone + min k (s .registers .kept)
-
--- ---- demand 3 as it was before request i, and still is where nothing is forgotten
-
--- "any series of steps, limited runs and step-backs"
-abbrev pub NoForgets : List Request → Type 0
-NoForgets [] = Unit {0}
-NoForgets (step ∷ qs) = NoForgets qs
-NoForgets (run limit ∷ qs) = NoForgets qs
-NoForgets (back ∷ qs) = NoForgets qs
-NoForgets (forget k ∷ qs) = ⊥
-
--- k steps of the machine itself
-abbrev pub afresh : Program → State → ℕ → Session
-afresh p o k = series p (replicate k step) (begin o)
-
--- what is promised of a session s, beside the steps from a fresh reset of the same sizes, which leaves o
-pub record Whole (p : Program) (o : State) (s : Session) : Type 0 where
-  -- no more is taken back than was made
-  pub within : s .undone ≤ s .made
-  -- "registers, cells, tags and history equal those of a fresh reset .. followed by S minus B steps", and so do "output bytes and their count" (02 h)
-  pub registers : s .registers ≡ afresh p o (ahead s) .registers
-  pub memory : s .memory ≡ afresh p o (ahead s) .memory
-  -- each of which is accepted
-  pub steps : afresh p o (ahead s) .made ≡ ahead s
-  -- "With history room above zero, a step-back is refused exactly when S equals B; with none, always.": with 9; else it is done, with 0
-  pub refused : numberOfStep (Back.back p (s .registers) (s .memory) .answer)
-      ≡ cond (eqb (s .registers .h) 0 || eqb (s .made) (s .undone)) (machineNumber NoHistory) 0
-  -- request g: "With H above 0 it equals S minus B; with H = 0 it is 0."
-  pub kept : s .registers .kept ≡ cond (ltb 0 (s .registers .h)) (ahead s) 0
