@@ -90,7 +90,17 @@ class Script:
         self.restored = Counter()  # (whether at a WRITECH, tags and bits restored, written, number) of each step-back
         self.flipped_bits = Counter()  # (place of a record, bit, number) of each step-back with that bit another
         self.written_moves = Counter()  # (word, whether there is a history, change of the written count) of each call
-        self.taken_back = Counter()  # (whether there is a history, steps) of each series all taken back; 2 is for more
+        self.calls_after = Counter()  # (word of the call that left the registers, word, number) of each call
+        self.forgets = Counter()  # (whether there is a history, kept number, k, number) of each forget
+        self.odd_records = Counter()  # (what is odd, records below and above, kept number, k, number) of each forget
+        self.unwritten = Counter()  # (word, records below and above, number) with a WRITECH's and nothing written
+        self.kept_records = Counter()  # (records, U, kept number, k, number) of each forget of well-formed records
+        self.series_forgets = Counter()  # (whether there is a history, what k is, number) of each forget in a series
+        self.full_histories = Counter()  # (odd place or none, kept number, k, number) of each with 8,192 records
+        self.fills = Counter()  # (source, H, how often, number) of each history that was forgotten and filled again
+        self.room_gained = Counter()  # (word, sign of the places free less those needed, number) after a forget
+        # (Whether there is a history, steps, whether any were forgotten) of each series all taken back; 2 is for more.
+        self.taken_back = Counter()
         self.wrong_tolds = Counter()  # (word, told's length, output's length, number of the input alone) of writers
         self.register_lengths = Counter()  # (line, number with nine, length, number) of each with another length
         self.resets = Counter()  # (length of the registers, cells, tags, history places, output, number) of each reset
@@ -213,6 +223,7 @@ class LentMachine:
         """By the registers that the call was given."""
         before, after = self.registers_before, self.state.registers
         self.script.kept_numbers[self.left_by, word, before.h, before.used, before.kept, number] += 1
+        self.script.calls_after[self.left_by, word, number] += 1
         if after != before:
             self.left_by, self.registers_before = word, after
 
@@ -293,6 +304,13 @@ class LentMachine:
 
     def back(self):
         return self.machine_call("back", lambda state: [sam.step_back(self.program, state)])
+
+    def forget(self, k):
+        before = self.state.registers  # a call replaces them
+        number = self.machine_call(f"forget {k}", lambda state: [sam.forget(self.program, state, k)])
+        if self.registers_length == REGISTERS:
+            self.script.forgets[before.h > 0, before.kept, k, number] += 1
+        return number
 
     def telling_call(self, words, call, told_length):
         """A call that tells one value, and writes no output: a told of another length is 31 before anything else, and

@@ -1,7 +1,9 @@
 """The families of cases that compare.py draws from: each adds calls to a script."""
 
+from dataclasses import dataclass
 from itertools import chain, product
 
+import forgets
 import panel
 import sam
 from calls import ASSEMBLE_TOLD, IMAGE_BYTES, PLACES, REGISTERS, TEXT_BYTES, WRITERS, LentMachine
@@ -11,7 +13,7 @@ from programs import CONVERSIONS, FLOAT_EDGES, FTOI_EDGES, INTEGER_EDGES, ITOF_E
 from programs import any_character, any_integer, any_operand, any_pattern, any_program
 from sam.actions import CH, FLOAT, INT, MA, PA
 from sam.image import CODE_WIDTH, COUNT_WIDTH, OPERAND_WIDTH
-from sam.machine import OUTPUT_LIMIT, RUN_LIMIT, cell_place, cell_sound, step_place
+from sam.machine import HISTORY_LIMIT, OUTPUT_LIMIT, RUN_LIMIT, cell_place, cell_sound, step_place
 from sam.table import KINDS, LAST_CHARACTER, NAMES, NO_OPERAND, PATTERN
 from sources import any_source, corner_sources, every_refusal
 
@@ -274,23 +276,66 @@ def fresh_state(chooser):
     )
 
 
-def series_call(chooser, lent):
-    """A call, and by how much it changes S minus B: steps accepted less step-backs accepted."""
-    kind = chooser.randrange(12)
-    if kind < 6:
-        return 1 if lent.step() == 0 else 0
-    if kind < 9:
-        return -1 if lent.back() == 0 else 0
-    lent.run(chooser.randrange(1, 8) if kind == 9 else chooser.choice([0, 20, 200, 1000]))
+@dataclass
+class Counts:
+    """Of a series since its reset: S minus B, the steps accepted less the step-backs accepted, and F, the steps that
+    were forgotten."""
+
+    net_steps: int = 0
+    forgotten: int = 0
+
+
+def series_step(lent, counts):
+    number = lent.step()
+    counts.net_steps += number == 0
+    return number
+
+
+def series_back(lent, counts):
+    """ "step-back is now refused exactly when S minus B equals F (or H = 0)" """
+    number = lent.back()
+    assert number == (9 if counts.net_steps == counts.forgotten or lent.state.registers.h == 0 else 0), counts
+    counts.net_steps -= number == 0
+
+
+def series_forget(script, lent, k, counts):
+    """Refused "when k is above the kept number" alone."""
+    kept, has_history = lent.state.registers.kept, lent.state.registers.h > 0
+    number = lent.forget(k)
+    assert number == (14 if k > kept else 0), (k, kept)
+    script.series_forgets[has_history, forgets.what_is_forgotten(k, kept), number] += 1
+    counts.forgotten += k if number == 0 else 0
+
+
+def series_run(lent, limit, counts):
+    number = lent.run(limit)
     steps, *_ = lent.told
-    return steps
+    counts.net_steps += steps
+    return number
 
 
-def check_kept(state, net_steps):
-    """Request g: "the number of step places in use"; "With H above 0 it equals S minus B; with H = 0 it is 0." """
+def series_call(chooser, script, lent, counts):
+    kind = chooser.randrange(14)
+    if kind < 6:
+        series_step(lent, counts)
+    elif kind < 9:
+        series_back(lent, counts)
+    elif kind < 11:
+        series_forget(script, lent, forgets.any_number(chooser, lent.state.registers.kept), counts)
+    else:
+        series_run(lent, chooser.randrange(1, 8) if kind == 11 else chooser.choice([0, 20, 200, 1000]), counts)
+
+
+def check_kept(state, counts):
+    """Request g: "the number of step places in use"; request i: "with H above 0, is now S minus B minus F" """
     r = state.registers
     assert r.kept == sum(place >> 63 for place in state.history[: r.used]), r
-    assert r.kept == (net_steps if r.h > 0 else 0), (r, net_steps)
+    assert r.kept == (counts.net_steps - counts.forgotten if r.h > 0 else 0), (r, counts)
+
+
+def check_unused(state):
+    """ "the other places are zero" """
+    assert not any(state.history[state.registers.used :]), state.registers
 
 
 def check_output(state):
@@ -298,30 +343,32 @@ def check_output(state):
     assert not any(state.output[state.registers.written :]), state.output
 
 
-def take_all_back(script, lent):
-    """As many step-backs as the kept number says are accepted, and the next is refused; no output is left."""
+def take_all_back(script, lent, forgotten=0):
+    """As many step-backs as the kept number says are accepted, and the next is refused; where no step was forgotten, no
+    output is left."""
     kept, h = lent.state.registers.kept, lent.state.registers.h
     numbers = [lent.back() for _ in range(kept + 1)]
     assert numbers == [0] * kept + [9], numbers
-    assert h == 0 or lent.state.registers.written == 0, lent.state.registers
-    script.taken_back[h > 0, min(kept, 2)] += 1
+    assert h == 0 or forgotten > 0 or lent.state.registers.written == 0, lent.state.registers
+    script.taken_back[h > 0, min(kept, 2), forgotten > 0] += 1
 
 
 def series_case(chooser, script):
-    """A reset, then steps, runs and step-backs; now and then cell 0 is read, or all is taken back."""
+    """A reset, then steps, runs, step-backs and forgets; now and then cell 0 is read, or all is taken back."""
     lent = LentMachine(script, made_program(chooser), fresh_state(chooser))
     lent.reset()
-    net_steps = 0
-    check_kept(lent.state, net_steps)
+    counts = Counts()
+    check_kept(lent.state, counts)
     for _ in range(chooser.randrange(4, 30)):
         if chooser.randrange(6) == 0:
             lent.dwell()
-        net_steps += series_call(chooser, lent)
-        check_kept(lent.state, net_steps)
+        series_call(chooser, script, lent, counts)
+        check_kept(lent.state, counts)
+        check_unused(lent.state)
         check_output(lent.state)
     lent.dwell()
     if chooser.randrange(4) == 0 and lent.state.registers.used <= 100:
-        take_all_back(script, lent)
+        take_all_back(script, lent, counts.forgotten)
 
 
 # Cells, tags, history places and output of a reset: outside their sizes or of unequal count, and such as are allowed.
@@ -423,7 +470,8 @@ def break_slices(chooser, program, state):
 def break_record(chooser, program, state):
     used = state.registers.used
     if used:
-        at = used - 1 - chooser.randrange(min(used, 3))
+        near_top = used - 1 - chooser.randrange(min(used, 3))
+        at = chooser.choice([near_top, near_top, chooser.randrange(used)])
         state.history[at] ^= 1 << chooser.randrange(64)
 
 
@@ -469,14 +517,16 @@ END_LIMITS = [0, RUN_LIMIT, RUN_LIMIT + 1, DOUBLE_WORD - 1]  # the ends of a run
 
 
 def any_call(chooser, lent):
-    kind = chooser.randrange(6)
+    kind = chooser.randrange(7)
     if kind < 2:
         return lent.back()
     if kind < 4:
         return lent.step()
     if kind < 5:
         return lent.dwell(chooser.choice([1] * 8 + [0, 2]))
-    return lent.run(chooser.choice([1, 50, *END_LIMITS]), chooser.choice([1] * 8 + [0, 2]))
+    if kind < 6:
+        return lent.run(chooser.choice([1, 50, *END_LIMITS]), chooser.choice([1] * 8 + [0, 2]))
+    return lent.forget(forgets.any_number(chooser, lent.state.registers.kept))
 
 
 def broken_case(chooser, script):
@@ -500,6 +550,7 @@ CALLS = {
     "run": lambda lent: lent.run(9),
     "plain": lambda lent: lent.run(9, word="plain"),
     "dwell": LentMachine.dwell,
+    "forget": lambda lent: lent.forget(lent.state.registers.kept),
     "reset": LentMachine.reset,
 }
 USED_SIZES = [(0, 0), (8, 0), (8, 1), (8, 4), (8192, 8000)]  # H and U, with room for a step and a run
@@ -530,7 +581,7 @@ def kept_corners(script):
     """Each call on every such machine, and all calls on what it leaves: what a step-back leaves may be 10."""
     program = single("JUMP 1")
     kinds = product(BROKEN_KEPT + ALLOWED_KEPT, (SHORT_RECORD, LONG_RECORD), (0, 1))
-    for ((h, used, kept), record, halt), first in product(kinds, ("step", "back", "run", "plain")):
+    for ((h, used, kept), record, halt), first in product(kinds, ("step", "back", "run", "plain", "forget")):
         lent = LentMachine(script, program, counted_state(h, used, kept, record, halt))
         for word in (first, "dwell", *CALLS):
             CALLS[word](lent)
@@ -538,9 +589,10 @@ def kept_corners(script):
 
 def length_corners(script):
     """Each call with registers of another length, on a machine where nine would be done and on a broken one, by a tag
-    above SP. A dwell is done with HALT 1, the others with HALT 0."""
+    above SP. A dwell is done with HALT 1, the others with HALT 0. A forget is 10 also where it would be 14."""
     program = single("JUMP 1")
-    for call, length, halt, tag in product(CALLS.values(), OTHER_LENGTHS, (0, 1), (INT, CH + 1)):
+    calls = [*CALLS.values(), lambda lent: lent.forget(2)]
+    for call, length, halt, tag in product(calls, OTHER_LENGTHS, (0, 1), (INT, CH + 1)):
         state = counted_state(8, 1, 1, SHORT_RECORD, halt)
         state.tags[1] = tag
         call(LentMachine(script, program, state, length))
@@ -584,11 +636,12 @@ def cell_corners(script):
 
 
 def record_corners(script):
-    """Step-backs of records made by hand at a WRITECH and elsewhere, and by a table that has it elsewhere; then with
-    each bit of a record another."""
+    """Step-backs and forgets of records made by hand at a WRITECH and elsewhere, and by a table that has it elsewhere;
+    then step-backs with each bit of a record another."""
     for state in chain(panel.record_machines(), panel.restoring_machines()):
         for program in (panel.WRITER, panel.LATE_WRITER):
             LentMachine(script, program, copied(state)).back()
+            LentMachine(script, program, copied(state)).forget(1)
     for place, bit, state in panel.flipped_machines():
         number = LentMachine(script, panel.WRITER, state).back()
         script.flipped_bits[place, bit, number] += 1
@@ -625,9 +678,132 @@ def broken_corners(script):
     word_corners(script)
 
 
-# ---- cell 0 of a halted machine
+# ---- forgets
 
-JUNK = DOUBLE_WORD - 1  # no well-formed history place
+
+def number_corners(script):
+    """Records of every length, each k, and what is left: a step-back, and the next to be forgotten."""
+    states = [forgets.machine(forgets.well_formed(count)) for count in range(forgets.MOST_RECORDS + 1)]
+    for state in [*states, forgets.bare_machine()]:
+        for k in forgets.numbers_to_forget(state.registers.kept):
+            lent = LentMachine(script, forgets.PROGRAM, copied(state))
+            lent.forget(k)
+            lent.back()
+            lent.forget(1)
+
+
+def forget_odd(script, name, odd, numbers):
+    """This record at every depth, by forgets of so many; a step-back asks the top record alone."""
+    for below, above, kept in forgets.odd_depths():
+        lent = LentMachine(script, forgets.PROGRAM, forgets.machine(forgets.among(odd, below, above), kept))
+        for k in numbers(kept):
+            number = lent.forget(k)
+            script.odd_records[name, below, above, kept, k, number] += 1
+        lent.back()
+
+
+def odd_corners(script):
+    """Records that are ill-formed in every way, by every k; then with each bit of a record another."""
+    for name, odd in forgets.ILL_FORMED.items():
+        forget_odd(script, name, odd, forgets.numbers_to_forget)
+    for place, bit in product(range(len(forgets.CELLS) + 1), range(64)):
+        forget_odd(script, (place, bit), forgets.flipped(place, bit), forgets.one_more_and_one)
+
+
+def unwritten_corners(script):
+    """A WRITECH's record at every depth with nothing written: a forget does not ask, a step-back does at the top."""
+    for below, above in forgets.DEPTHS:
+        state = forgets.machine(forgets.among(forgets.WRITING_RECORD, below, above), written=0)
+        number = LentMachine(script, forgets.PROGRAM, copied(state)).back()
+        script.unwritten["back", below, above, number] += 1
+        for k in range(state.registers.kept + 1):
+            number = LentMachine(script, forgets.PROGRAM, copied(state)).forget(k)
+            script.unwritten["forget", below, above, number] += 1
+
+
+def kept_record_corners(script):
+    """Kept numbers that are those of the records, and every other."""
+    for records, kept, k in forgets.kept_cases():
+        number = LentMachine(script, forgets.PROGRAM, forgets.machine(records, kept)).forget(k)
+        script.kept_records[len(records), sum(map(len, records)), kept, k, number] += 1
+
+
+def full_corners(script):
+    """As many records as there can be, all well formed or one not, with their number kept or one less."""
+    all_places = [forgets.WELL_FORMED[0]] * HISTORY_LIMIT
+    for at, kept in product((None, *forgets.ODD_PLACES), (HISTORY_LIMIT, HISTORY_LIMIT - 1)):
+        state = forgets.machine(all_places, kept, unused=0)
+        if at is not None:
+            state.history[at] |= 1
+        lent = LentMachine(script, forgets.PROGRAM, state)
+        for k in forgets.NUMBERS_OF_FULL:
+            number = lent.forget(k)
+            script.full_histories[at, kept, k, number] += 1
+
+
+def forget_and_fill(script, lent, word, k, counts):
+    """Some of a full history is forgotten, and what met 8 is tried again; then it is filled: the number of that run."""
+    series_forget(script, lent, k, counts)
+    free, needed = forgets.places_free(lent.state), forgets.places_needed(lent.program, lent.state)
+    number = series_run(lent, 1, counts) if word == "run" else series_step(lent, counts)
+    script.room_gained[word, (free > needed) - (free < needed), number] += 1
+    number = series_run(lent, RUN_LIMIT, counts)
+    check_kept(lent.state, counts)
+    check_unused(lent.state)
+    return number
+
+
+def fill_corners(script):
+    """Histories that fill, are forgotten and fill again, one step, some and all forgotten in turns; then what is kept
+    is taken back, and once more, where nothing is."""
+    for (source, n, h), word in product(forgets.FILLERS, ("step", "run")):
+        lent = LentMachine(script, single(source), marked_state(n, n, h, OUTPUT_LIMIT))
+        lent.reset()
+        counts = Counts()
+        series_run(lent, RUN_LIMIT, counts)
+        for times in range(1, forgets.FILLS + 1):
+            kept = lent.state.registers.kept
+            number = forget_and_fill(script, lent, word, [1, kept // 2, kept][times % 3], counts)
+            script.fills[source, h, times, number] += 1
+        if h < HISTORY_LIMIT:
+            take_all_back(script, lent, counts.forgotten)
+            take_all_back(script, lent, counts.forgotten)
+
+
+def forget_corners(script):
+    number_corners(script)
+    odd_corners(script)
+    unwritten_corners(script)
+    kept_record_corners(script)
+    full_corners(script)
+    fill_corners(script)
+
+
+def forget_state(chooser, program):
+    """A machine after some steps, often with something above U, and nearly as often with a fault, by a record or a kept
+    number most of all."""
+    state = worked_state(chooser, program)
+    if chooser.randrange(2):
+        used, h = state.registers.used, state.registers.h
+        state.history[used:] = [chooser.randrange(DOUBLE_WORD)] * (h - used)
+    if chooser.randrange(8) == 0:
+        state.registers.written = 0
+    if chooser.randrange(3) == 0:
+        chooser.choice([break_record, break_record, break_kept, *BREAKS])(chooser, program, state)
+    return state
+
+
+def forget_case(chooser, script):
+    """Such a machine; forgets of any number, and other calls between them."""
+    program = made_program(chooser)
+    state = forget_state(chooser, program)
+    lent = LentMachine(script, program, state, chooser.choice([REGISTERS] * 20 + OTHER_LENGTHS))
+    for _ in range(3):
+        lent.forget(forgets.any_number(chooser, lent.state.registers.kept))
+        any_call(chooser, lent)
+
+
+# ---- cell 0 of a halted machine
 
 
 def dwell_values(script, program):
@@ -649,7 +825,7 @@ def dwell_histories(script, program):
     for cell, pc, h in product(PLAIN_CELLS, range(program.length + 2), (0, 1, 8)):
         for used in range(h + 2):
             state = halted(cell, h, pc=pc, used=used, kept=min(used, 1))
-            state.history[:] = [JUNK] * h
+            state.history[:] = [forgets.JUNK] * h
             lent = LentMachine(script, program, state)
             lent.dwell()
             lent.step()
@@ -875,6 +1051,7 @@ CORNERS = {
     "image": image_corners,
     "reset": reset_corners,
     "broken": broken_corners,
+    "forget": forget_corners,
     "dwell": dwell_corners,
     "instruction": instruction_corners,
     "plain": plain_corners,
@@ -888,6 +1065,7 @@ FAMILIES = {
     "reset": (reset_case, 1),
     "instruction": (instruction_case, 40),
     "broken": (broken_case, 5),
+    "forget": (forget_case, 3),
     "dwell": (dwell_case, 6),
     "plain": (plain_case, 4),
 }

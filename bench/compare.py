@@ -9,8 +9,9 @@ test of FLOATs that request b speaks of, a sum at the ends of 32 bits that reque
 request e speaks of was never made, a step or a run was never refused at such a sum or conversion, a kind of decimal or
 a code at the end of the codes was never read, a dwell that request f speaks of was never read or never refused, a kept
 number that request g speaks of was never given to a call or its steps never all taken back, an output, a character, a
-record or a WRITECH that request h speaks of was never met, or a told or registers of another length were never given to
-a call that would be done or refused besides.
+record or a WRITECH that request h speaks of was never met, a forget that request i speaks of was never made or never
+refused or the room it gained never used, or a told or registers of another length were never given to a call that would
+be done or refused besides.
 """
 
 import argparse
@@ -21,6 +22,7 @@ import sys
 from collections import Counter
 from itertools import permutations, product
 
+import forgets
 import panel
 import sam
 from calls import REGISTERS, Script
@@ -32,10 +34,10 @@ from programs import CONVERSIONS, FTOI_ENDS, GREATEST, INFINITIES, INTEGER_TIES,
 from programs import ONE_INTEGER, TWO_FLOATS, TWO_INTEGERS
 from sam.actions import CH, FLOAT, INT, MA, PA
 from sam.machine import OUTPUT_LIMIT, RUN_LIMIT
-from sam.table import LAST_CHARACTER, WORD
+from sam.table import WORD
 from sources import any_source, every_refusal
 
-ALL_NUMBERS = [*range(0, 13), *range(21, 32), 33, *range(41, 46), 50, *range(60, 64)]
+ALL_NUMBERS = [*range(0, 13), 14, *range(21, 32), 33, *range(41, 46), 50, *range(60, 64)]
 FAULTS = [*range(22, 31), 33]  # refusals of a source that have a line
 FLOAT_TESTS = [  # what request b changed
     *[("EQUAL", ((FLOAT, zero), (FLOAT, other)), 0) for zero, other in permutations(ZEROS)],
@@ -75,7 +77,8 @@ DWELLS_READ = [  # what request f added: cell 0 and its tenths, from the first F
     *[((INT, tenths), tenths) for tenths in (SHORTEST + 1, LONGEST - 1)],
     *[((tag, value % WORD), end) for tag, end, values in HELD for value in values],
 ]
-DWELLS_AFTER = [("reset", 60), ("step", 60), ("back", 60), ("step", 0), ("run", 0)]  # the call before, and the number
+# The call before a dwell, and the number.
+DWELLS_AFTER = [("reset", 60), ("step", 60), ("back", 60), ("forget", 60), ("step", 0), ("run", 0), ("forget", 0)]
 # What request g added: H, U and the kept number that a step-back of a machine made by hand leaves, refused and not.
 BROKEN_BY_BACK = [(8, 3, 0), (8, 2, 0), (8, 2, 3), (8192, 7999, 0)]
 ALLOWED_BY_BACK = [(8, 3, 1), (8, 3, 3), (8, 2, 1), (8, 2, 2), (8192, 7999, 7999)]
@@ -109,7 +112,26 @@ WRITTEN_MOVES = [
     *[("step", has_history, 1) for has_history in (False, True)],
     ("back", True, -1),
 ]
-TAKEN_BACK = [(False, 0), (True, 0), (True, 1), (True, 2)]  # whether there is a history, and steps; 2 is for more
+# Whether there is a history, steps (2 is for more), and whether steps before them were forgotten.
+TAKEN_BACK = [(False, 0, False), *[(True, steps, forgotten) for steps in (0, 1, 2) for forgotten in (False, True)]]
+# What request i added: in a series, whether there is a history, what is forgotten, and the number.
+SERIES_FORGETS = [
+    (False, "none", 0),
+    *[(True, what, 0) for what in ("none", "some", "all")],
+    *[(has_history, what, 14) for has_history in (False, True) for what in ("more", "a lot more")],
+]
+# A call on what a forget left, and its numbers.
+AFTER_FORGETS = {
+    "step": [0, 1, 8],
+    "back": [0, 9],
+    "run": [0, 8, 50],
+    "plain": [0],
+    "dwell": [0, 60],
+    "forget": [0, 14],
+    "reset": [0],
+}
+# Sign of the places free after a forget less those that a step needs, where it met 8 before, and its number.
+ROOM_GAINED = {"step": [(-1, 8), (0, 0), (1, 0)], "run": [(-1, 8), (0, 50), (1, 50)]}
 CUT = 400  # characters of a line that a difference shows
 
 
@@ -240,11 +262,12 @@ def dwell_tests():
 
 def kept_tests():
     """(The call that left the registers, or none; the call; H, U and kept number; number): refused by every call that
-    asks for a sound state, or done by each; and so where a step-back left them, of which a dwell tells most."""
+    asks for a sound state, or done by each but a forget, which asks for the records too; and so where a step-back left
+    them, of which a dwell tells most."""
     asking = [word for word in CALLS if word != "reset"]
     for word, kept in product(asking, BROKEN_KEPT):
         yield None, word, *kept, 10
-    for word, kept in product(asking, ALLOWED_KEPT):
+    for word, kept in product([word for word in asking if word != "forget"], ALLOWED_KEPT):
         yield None, word, *kept, 0
     for word, kept in product(asking, BROKEN_BY_BACK):
         yield "back", word, *kept, 10
@@ -300,6 +323,52 @@ def flipped_tests():
     return [(place, bit, 10) for place, bit in panel.JUDGED_BITS]
 
 
+def forget_tests():
+    """(Whether there is a history, kept number, k, number) of well-formed records, of which that many are kept."""
+    for kept in range(forgets.MOST_RECORDS + 1):
+        yield from ((True, kept, k, 14 if k > kept else 0) for k in forgets.numbers_to_forget(kept))
+    yield from ((False, 0, k, 14 if k > 0 else 0) for k in forgets.numbers_to_forget(0))
+
+
+def odd_record_tests():
+    """(What is odd, records below it and above, kept number, k, number): 10 at every depth, before 14."""
+    for below, above, kept in forgets.odd_depths():
+        for name, k in product(forgets.ILL_FORMED, forgets.numbers_to_forget(kept)):
+            yield name, below, above, kept, k, 10
+        for bit, k in product(forgets.JUDGED_BITS, forgets.one_more_and_one(kept)):
+            yield bit, below, above, kept, k, 10
+
+
+def unwritten_tests():
+    """(Call, records below a WRITECH's and above, number) with nothing written: a step-back asks of the top alone."""
+    for below, above in forgets.DEPTHS:
+        yield "forget", below, above, 0
+        yield "back", below, above, 10 if above == 0 else 0
+
+
+def kept_record_tests():
+    """(Records, U, kept number, k, number): 10 unless the kept number is theirs."""
+    for records, kept, k in forgets.kept_cases():
+        count, used = len(records), sum(map(len, records))
+        yield count, used, kept, k, 10 if kept != count else 14 if k > kept else 0
+
+
+def full_tests():
+    """(Place of an ill-formed record or none, kept number, k, number) with as many records as there can be."""
+    for k in forgets.NUMBERS_OF_FULL:
+        for at in forgets.ODD_PLACES:
+            yield at, forgets.HISTORY_LIMIT, k, 10
+            yield at, forgets.HISTORY_LIMIT - 1, k, 10
+        yield None, forgets.HISTORY_LIMIT - 1, k, 10
+        yield None, forgets.HISTORY_LIMIT, k, 14 if k > forgets.HISTORY_LIMIT else 0
+
+
+def fill_tests():
+    """(Source, H, how often, number): 8 each time, once a forget has gained room and it is used."""
+    for (source, _, h), times in product(forgets.FILLERS, range(1, forgets.FILLS + 1)):
+        yield source, h, times, 8
+
+
 def character_steps():
     """(Call, name, number) on characters alone: 4 of an instruction that does not take them."""
     for word in ("step", "plain"):
@@ -336,8 +405,9 @@ def run_tests(word, length):
 def length_tests():
     """The same for every call."""
     for length in OTHER_LENGTHS:
-        for line, done in product(("reset", "step", "back", "dwell 1"), (0, 10)):
+        for line, done in product(("reset", "step", "back", "forget 1", "dwell 1"), (0, 10)):
             yield line, done, length, 10
+        yield "forget 2", 14, length, 10
         yield "reset", 11, length, 11
         for told_length in other_tolds(1):
             yield f"dwell {told_length}", 31, length, 31
@@ -358,14 +428,16 @@ def all_met(script):
     """Whether the cases led to every number, to every fault of a source in its first line and in a later one, to every
     test of FLOATs, sum and conversion by the proved step and by the direct run, to sums and conversions refused with
     and without a history, to every kind of decimal, to the last codes, to every dwell, to every kept number, to every
-    output, character, record and WRITECH that request h speaks of, and to a told and registers of another length
-    wherever they are refused."""
+    output, character, record and WRITECH that request h speaks of, to every forget and its room, and to a told and
+    registers of another length wherever they are refused."""
     lines = product(FAULTS, (1, 2))
     single_tests = [*FLOAT_TESTS, *sum_tests(), *CONVERSION_TESTS, *CHARACTER_TESTS]
     tests = [(word, *test) for word in ("step", "plain") for test in single_tests]
     refused = [*[(name, 6) for name in SUMS], ("FTOI", 5), ("WRITECH", 12)]
     steps = [(word, *of, h) for word, of, h in product(("step", "run", "plain"), refused, (False, True))]
     codes = [(word, *code) for word, code in product(("unpack", "plain_unpack"), LAST_CODES)]
+    after_forgets = [("forget", word, number) for word, numbers in AFTER_FORGETS.items() for number in numbers]
+    room = [(word, *gained) for word, all_gained in ROOM_GAINED.items() for gained in all_gained]
     complete = [
         all_in(script.numbers, ALL_NUMBERS, "never given back"),
         all_in(script.fault_lines, lines, "faults never in the first line (1) or never in a later one (2)"),
@@ -385,7 +457,16 @@ def all_met(script):
         all_in(script.characters, CHARACTER_OPERANDS, "operands of PUSHIMMCH never assembled (0) or refused"),
         all_in(script.packed_characters, packed_tests(), "PUSHIMMCH (call, operand, number) never packed or unpacked"),
         all_in(script.written_moves, WRITTEN_MOVES, "written counts (call, any history, change) never changed so"),
-        all_in(script.taken_back, TAKEN_BACK, "series (any history, steps; 2 for more) never taken back to the reset"),
+        all_in(script.taken_back, TAKEN_BACK, "series (any history, steps, any forgotten) never all taken back"),
+        all_in(script.forgets, forget_tests(), "forgets (any history, kept, k, number) never made"),
+        all_in(script.odd_records, odd_record_tests(), "forgets (odd, below, above, kept, k, number) never refused"),
+        all_in(script.unwritten, unwritten_tests(), "WRITECH's records (call, below, above, number) never met"),
+        all_in(script.kept_records, kept_record_tests(), "forgets (records, U, kept, k, number) never made"),
+        all_in(script.full_histories, full_tests(), "full histories (odd place, kept, k, number) never forgotten"),
+        all_in(script.series_forgets, SERIES_FORGETS, "series (any history, what is forgotten, number) never met"),
+        all_in(script.calls_after, after_forgets, "calls (left by, call, number) never made on what a forget left"),
+        all_in(script.fills, fill_tests(), "histories (source, H, how often, number) never filled again"),
+        all_in(script.room_gained, room, "room (call, sign of free less needed, number) never gained"),
         all_in(script.wrong_tolds, told_tests(), "writers (told's, output's length, number of input) never refused"),
         all_in(script.register_lengths, length_tests(), "calls (number with nine, length, number) never refused"),
         all_in(script.resets, reset_tests(), "resets (registers, cells, tags, history, output, number) never made"),

@@ -192,6 +192,14 @@ static void call_run(run_call *call) {
                        data(&told), told.count));
 }
 
+static void call_forget(void) {
+    uint64_t k = read_number();
+    lend(&told, 0);
+    print_machine(sam_forget(data(&table), table.count, length, k, data(&registers), registers.count, data(&bits),
+                             bits.count, data(&tags), tags.count, data(&history), history.count, data(&output),
+                             output.count));
+}
+
 static void call_dwell(void) {
     lend(&told, read_number());
     print_machine(sam_dwell(data(&table), table.count, length, data(&registers), registers.count, data(&bits),
@@ -213,6 +221,7 @@ static void obey(const char *word) {
     else if (strcmp(word, "reset") == 0) call_machine(sam_reset);
     else if (strcmp(word, "step") == 0) call_machine(sam_step);
     else if (strcmp(word, "back") == 0) call_machine(sam_step_back);
+    else if (strcmp(word, "forget") == 0) call_forget();
     else if (strcmp(word, "run") == 0) call_run(sam_run);
     else if (strcmp(word, "dwell") == 0) call_dwell();
     else if (strcmp(word, "plain") == 0) call_run(plain_run);

@@ -7,7 +7,7 @@ from itertools import product
 import sam
 from machines import single, stacked
 from sam.actions import CH, FLOAT, INT, MA, PA
-from sam.machine import OUTPUT_LIMIT, cell_place, step_place, top_record
+from sam.machine import OUTPUT_LIMIT, cell_place, record_ending, step_place
 from sam.table import CODES, LAST_CHARACTER, PROGRAM_LIMIT, WORD, make_place
 
 DOUBLE_WORD = 1 << 64
@@ -181,7 +181,7 @@ JUDGED_BITS = [(place, bit) for place, zeros in ((0, 18), (1, 22)) for bit in (*
 def restored_by(program, state):
     """(Whether at a WRITECH, the cells restored, the written count) of the top record, if there is one."""
     r = state.registers
-    record = top_record(state) if 0 < r.used <= len(state.history) else None
+    record = record_ending(state.history, r.used) if 0 < r.used <= len(state.history) else None
     if record is None:
         return []
     cells = tuple((tag, bits) for _, tag, bits in record.cells)

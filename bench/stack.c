@@ -20,7 +20,7 @@ static void die(const char *why) {
 
 /* ---- what is lent to the calls */
 
-enum { PAIRS = SAM_TABLE_PLACES / 16, STEPS = 1000 };
+enum { PAIRS = SAM_TABLE_PLACES / 16, STEPS = 1000, FORGOTTEN = 3 };
 
 static char source[SAM_SOURCE_LIMIT];
 static size_t source_len, image_len;
@@ -55,6 +55,11 @@ static void step(void) {
 static void step_back(void) {
     number = sam_step_back(table, SAM_TABLE_PLACES, length, registers, SAM_REGISTERS, bits, SAM_CELL_LIMIT, tags,
                            SAM_CELL_LIMIT, history, SAM_HISTORY_LIMIT, output, SAM_OUTPUT_LIMIT);
+}
+
+static void forget(void) {
+    number = sam_forget(table, SAM_TABLE_PLACES, length, FORGOTTEN, registers, SAM_REGISTERS, bits, SAM_CELL_LIMIT,
+                        tags, SAM_CELL_LIMIT, history, SAM_HISTORY_LIMIT, output, SAM_OUTPUT_LIMIT);
 }
 
 static void run(void) {
@@ -188,6 +193,7 @@ static const struct row ROWS[] = {
     {"step WRITECH", step, TO_WRITECH, NULL, SAM_STEP_STACK, 2, 0},
     {"back ITOF", step_back, TO_ITOF + 1, NULL, SAM_STEP_BACK_STACK, 9, 0},
     {"back WRITECH", step_back, TO_WRITECH + 1, NULL, SAM_STEP_BACK_STACK, 9, 0},
+    {"forget", forget, TO_WRITECH + 1, NULL, SAM_FORGET_STACK, 14, 0},
     {"run", run, 0, NULL, SAM_RUN_STACK, 2, 50},
     {"dwell INT", dwell, 1, &TENTHS, SAM_DWELL_STACK, 0, 0},
     {"dwell FLOAT", dwell, 1, &SECONDS, SAM_DWELL_STACK, 0, 0},

@@ -1,6 +1,6 @@
 #!/usr/bin/env python3
-"""Tests of the interpreter in sam/: the twelve P examples of document 01, its sentences, requests a, b, d, e, f, g and
-h, and the settled readings.
+"""Tests of the interpreter in sam/: the twelve P examples of document 01, its sentences, requests a, b and d to i, and
+the settled readings.
 
 Every expected value is read off the documents or worked out by hand; none is copied from an output.
 """
@@ -18,9 +18,11 @@ import programs
 import sam
 from sam import floats
 from sam.actions import CH, FLOAT, INT, MA, PA
+from sam.machine import plain_step
 
 PLACES = 1024
 WORD = 1 << 32
+DOUBLE_WORD = 1 << 64
 
 
 def assembled(text):
@@ -68,6 +70,28 @@ def stacked(*cells, h=0, output=b"", written=0):
 def contents(state):
     """All that a call may change."""
     return list(state.bits), list(state.tags), list(state.history), bytes(state.output), replace(state.registers)
+
+
+def cell_place(address, tag=INT, bits=0):
+    """ "0, address 10, old tag [3], old bits 32, [18] zeros" """
+    return address << 53 | tag << 50 | bits << 18
+
+
+def step_place(pc=0, sp=0, fbr=0, written=1):
+    """ "1, old PC 11, old SP 10, old FBR 10, cells written 10, 22 zeros" """
+    return 1 << 63 | pc << 52 | sp << 42 | fbr << 32 | written << 22
+
+
+def joined(records):
+    """The places of these records, the oldest first."""
+    return [place for record in records for place in record]
+
+
+def drawn_program(chooser):
+    while True:
+        answer, table = assembled(programs.any_program(chooser))
+        if answer[0] == 0:
+            return sam.Program(table, answer[1])
 
 
 class PExamples(unittest.TestCase):
@@ -1617,6 +1641,7 @@ class KeptNumber(unittest.TestCase):
         before = contents(state)
         self.assertEqual(sam.step(made, state), 10, before)
         self.assertEqual(sam.step_back(made, state), 10, before)
+        self.assertEqual([sam.forget(made, state, k) for k in (0, 1, DOUBLE_WORD - 1)], [10] * 3, before)
         self.assertEqual([sam.run(made, state, limit) for limit in (0, 1, 9)], [(10, 0)] * 3, before)
         self.assertEqual(sam.dwell(made, state), (10, 0), before)
         self.assertEqual(contents(state), before)
@@ -1797,17 +1822,11 @@ class KeptNumber(unittest.TestCase):
         _, steps = sam.run(made, state, chooser.randrange(12))
         return steps
 
-    def drawn(self, chooser):
-        while True:
-            answer, table = assembled(programs.any_program(chooser))
-            if answer[0] == 0:
-                return sam.Program(table, answer[1])
-
     def test_demand(self):
         """ "every state reached under demand 3's premise", and from the last as many step-backs as it says."""
         chooser = random.Random(7)
         for h in [0, 1, 2, 5, 12, 40, 200] * 12:
-            made, n = self.drawn(chooser), chooser.choice([1, 2, 5, 16, 40])
+            made, n = drawn_program(chooser), chooser.choice([1, 2, 5, 16, 40])
             state = sam.State([9] * n, [9] * n, [9] * h, bytearray([9] * chooser.choice([0, 1, 4, 256])))
             self.assertEqual(sam.reset(made, state), 0)
             net_steps = 0
@@ -1853,7 +1872,7 @@ class Characters(unittest.TestCase):
     def check_broken(self, made, state):
         """10 from each call that asks for a sound state, and nothing changed."""
         before = contents(state)
-        for number in (sam.step(made, state), sam.step_back(made, state)):
+        for number in (sam.step(made, state), sam.step_back(made, state), sam.forget(made, state, 0)):
             self.assertEqual(number, 10, before)
         self.assertEqual([sam.run(made, state, limit) for limit in (0, 9)], [(10, 0)] * 2, before)
         self.assertEqual(sam.run(made, state, 1000001), (11, 0))
@@ -2182,6 +2201,432 @@ class Characters(unittest.TestCase):
             self.assertEqual(sam.console(text.encode()), printed, text)
 
 
+# Records made by hand for a machine of four cells and a program of four instructions.
+CELL_PLACES = [cell_place(0, FLOAT, 7), cell_place(2, CH, 127)]
+LAST_PLACE = step_place(3, 3, 3, 2)  # of a step that wrote those two
+WELL_FORMED = [
+    [step_place(0, 0, 0, 0)],
+    [*CELL_PLACES, LAST_PLACE],
+    [cell_place(3, PA, 4), step_place(2, 1, 0, 1)],
+    [cell_place(0), cell_place(1, MA, WORD - 1), cell_place(2, CH, 0), cell_place(3), step_place(0, 0, 0, 4)],
+]
+ILL_FORMED = [
+    # marks
+    [*CELL_PLACES, LAST_PLACE - (1 << 63)],
+    [CELL_PLACES[0] | 1 << 63, CELL_PLACES[1], LAST_PLACE],
+    [CELL_PLACES[0], CELL_PLACES[1] | 1 << 63, LAST_PLACE],
+    # zeros
+    *[[*CELL_PLACES, LAST_PLACE | 1 << bit] for bit in range(22)],
+    *[[CELL_PLACES[0] | 1 << bit, CELL_PLACES[1], LAST_PLACE] for bit in range(18)],
+    *[[CELL_PLACES[0], CELL_PLACES[1] | 1 << bit, LAST_PLACE] for bit in range(18)],
+    # old PC not below the length, SP, FBR and addresses not below N
+    *[[*CELL_PLACES, step_place(pc, 3, 3, 2)] for pc in (4, 2047)],
+    *[[*CELL_PLACES, step_place(3, sp, 3, 2)] for sp in (4, 1023)],
+    *[[*CELL_PLACES, step_place(3, 3, fbr, 2)] for fbr in (4, 1023)],
+    *[[CELL_PLACES[0], cell_place(address), LAST_PLACE] for address in (4, 1023)],
+    # addresses that do not rise
+    [CELL_PLACES[0], cell_place(0), LAST_PLACE],
+    [CELL_PLACES[1], CELL_PLACES[0], LAST_PLACE],
+    [CELL_PLACES[1], CELL_PLACES[1], LAST_PLACE],
+    # what would be restored
+    *[[cell_place(0, PA, bits), CELL_PLACES[1], LAST_PLACE] for bits in (5, WORD - 1)],
+    *[[cell_place(0, CH, bits), CELL_PLACES[1], LAST_PLACE] for bits in (128, WORD - 1)],
+    *[[CELL_PLACES[0], cell_place(2, tag), LAST_PLACE] for tag in (5, 6, 7)],
+    # a count that reaches below the record, or leaves cell places over
+    *[[*CELL_PLACES, step_place(3, 3, 3, written)] for written in (3, 1023, 1, 0)],
+    # no record at all
+    [0, 0, 0],
+    [DOUBLE_WORD - 1] * 3,
+]
+
+
+class Forget(unittest.TestCase):
+    """Request i: forget the oldest trials."""
+
+    # Seven steps; the records that they leave, worked out by hand; PC, SP and cells 0 to 2 after so many of them.
+    PROGRAM = "PUSHIMM 1 DUP SWAP ADD JUMP 5 ADDSP 2 STOP"
+    RECORDS = [
+        [cell_place(0), step_place(0, 0, 0, 1)],  # PUSHIMM
+        [cell_place(1), step_place(1, 1, 0, 1)],  # DUP
+        [cell_place(0, INT, 1), cell_place(1, INT, 1), step_place(2, 2, 0, 2)],  # SWAP
+        [cell_place(0, INT, 1), step_place(3, 2, 0, 1)],  # ADD
+        [step_place(4, 1, 0, 0)],  # JUMP
+        [cell_place(1, INT, 1), cell_place(2), step_place(5, 1, 0, 2)],  # ADDSP, over a popped cell that kept its 1
+        [step_place(6, 3, 0, 0)],  # STOP
+    ]
+    AFTER = [
+        (0, 0, [0, 0, 0]), (1, 1, [1, 0, 0]), (2, 2, [1, 1, 0]), (3, 2, [1, 1, 0]), (4, 1, [2, 1, 0]),
+        (5, 1, [2, 1, 0]), (6, 3, [2, 0, 0]), (6, 3, [2, 0, 0]),
+    ]  # fmt: skip
+
+    HANDED = "JUMP 1 WRITECH PUSHIMM 2 STOP"  # with records made by hand
+    JUNK = DOUBLE_WORD - 1  # no history place: what stands above U is not looked at
+    MANY = [1 << 32, (1 << 32) + 1, (1 << 32) + 3, 1 << 63, (1 << 63) + 3, DOUBLE_WORD - 1]  # steps to forget
+
+    def by_hand(self, records, text=HANDED, **registers):
+        """A machine with these records, something above U, and two bytes of output written."""
+        places = joined(records)
+        history = places + [self.JUNK, 5]
+        r = sam.Registers(n=4, h=len(history), used=len(places), kept=len(records), written=2)
+        output = bytearray(b"\xc8\xc9\xca")
+        state = sam.State([40, 76, 3, 4], [INT, CH, MA, PA], history, output, replace(r, **registers))
+        return program(text), state
+
+    def check_refused(self, made, state, k, number):
+        """ "a refusal changes nothing" """
+        before = contents(state)
+        self.assertEqual(sam.forget(made, state, k), number, (k, before))
+        self.assertEqual(contents(state), before)
+
+    def check_broken(self, made, state):
+        """10 whatever k is: "10 first [...] then 14"."""
+        kept = state.registers.kept
+        for k in (0, 1, kept, (kept + 1) % DOUBLE_WORD, *self.MANY):
+            self.check_refused(made, state, k, 10)
+
+    def check_done(self, made, state, k, records):
+        """The oldest k of these records go, "the rest [move] down", "the room gained" is zero, U and the kept number
+        fall, and nothing else changes."""
+        bits, tags, history, output, registers = contents(state)
+        gone, left = joined(records[:k]), joined(records[k:])
+        self.assertEqual(sam.forget(made, state, k), 0)
+        history[: registers.used] = left + [0] * len(gone)
+        registers = replace(registers, used=len(left), kept=len(records) - k)
+        self.assertEqual(contents(state), (bits, tags, history, output, registers))
+
+    # ---- what is forgotten
+
+    def worked(self, h=14):
+        """After all seven steps."""
+        made, state = started(self.PROGRAM, h=h)
+        self.assertEqual((sam.run(made, state, 9), state.history[:14]), ((0, 7), joined(self.RECORDS)))
+        return made, state
+
+    def test_each_number(self):
+        for k in range(8):
+            made, state = self.worked()
+            self.check_done(made, state, k, self.RECORDS)
+
+    def test_little_by_little(self):
+        """ "the k oldest kept steps": of those that are still kept."""
+        made, state = self.worked(h=20)
+        self.check_done(made, state, 2, self.RECORDS)
+        self.check_done(made, state, 0, self.RECORDS[2:])
+        self.check_done(made, state, 1, self.RECORDS[2:])
+        self.check_refused(made, state, 5, 14)
+        self.check_done(made, state, 3, self.RECORDS[3:])
+        self.check_done(made, state, 1, self.RECORDS[6:])
+        self.check_refused(made, state, 1, 14)
+        self.check_done(made, state, 0, [])
+
+    def test_back_after_it(self):
+        """The newest can be taken back as ever, down to what the oldest of them found."""
+        for k in range(8):
+            made, state = self.worked()
+            sam.forget(made, state, k)
+            for steps in range(6, k - 1, -1):
+                self.assertEqual(sam.step_back(made, state), 0)
+                r, (pc, sp, cells) = state.registers, self.AFTER[steps]
+                self.assertEqual((r.pc, r.sp, r.halt, r.kept, state.bits[:3]), (pc, sp, 0, steps - k, cells))
+            self.assertEqual((sam.step_back(made, state), any(state.history)), (9, False))
+
+    def test_records_made_by_hand(self):
+        for records, k in product([[], WELL_FORMED, WELL_FORMED[::-1], WELL_FORMED * 3], range(13)):
+            made, state = self.by_hand(records)
+            if k <= len(records):
+                self.check_done(made, state, k, records)
+            else:
+                self.check_refused(made, state, k, 14)
+
+    def test_any_machine_that_is_sound(self):
+        """After 10 there is 14 alone: neither 1 nor 2 nor what the instruction would meet."""
+        for registers in [{"halt": 1}, {"pc": 4}, {"sp": 0, "pc": 1}, {"sp": 3, "fbr": 3}, {"written": 0},
+                          {"written": 3}]:  # fmt: skip
+            self.check_done(*self.by_hand(WELL_FORMED, **registers), 2, WELL_FORMED)
+
+    def test_nothing_written(self):
+        """ "at step-back a top record at a WRITECH with nothing written", and not at a forget, wherever it stands."""
+        writing = [step_place(1, 2, 0, 0)]
+        for records in ([writing], [writing, *WELL_FORMED], [*WELL_FORMED, writing], [writing] * 3):
+            for k in range(len(records) + 1):
+                made, state = self.by_hand(records, written=0)
+                if records[-1] == writing:
+                    self.assertEqual(sam.step_back(made, state), 10)
+                self.check_done(made, state, k, records)
+
+    def test_program_handed(self):
+        """The records are judged by the program that the forget is handed."""
+        for text, number in [("STOP STOP STOP STOP", 0), ("STOP STOP STOP", 10), ("STOP STOP STOP STOP STOP", 0)]:
+            made, state = self.by_hand(WELL_FORMED[:2], text, pc=0)
+            state.set_cell(3, INT, 0)
+            self.assertEqual(sam.forget(made, state, 1), number)  # of a step at PC 3
+        made, state = self.by_hand([[cell_place(0, PA, 4), step_place()]] * 2, "STOP STOP STOP", pc=0)
+        state.set_cell(3, INT, 0)
+        self.check_broken(made, state)
+
+    # ---- 14
+
+    def test_above_the_kept_number(self):
+        for count in range(5):
+            made, state = self.by_hand(WELL_FORMED[:count])
+            for k in (count + 1, count + 2, (1 << 32) + count, *self.MANY):
+                self.check_refused(made, state, k, 14)
+            self.check_done(made, state, count, WELL_FORMED[:count])
+
+    def test_no_history(self):
+        made, state = started(self.PROGRAM)
+        self.assertEqual(sam.run(made, state, 3), (50, 3))
+        self.check_done(made, state, 0, [])
+        for k in (1, 3, *self.MANY):
+            self.check_refused(made, state, k, 14)
+        state.registers.kept = 1  # above U
+        self.check_broken(made, state)
+
+    # ---- 10
+
+    def test_ill_formed(self):
+        """Alone; the lowest, in the middle and at the top; with more of them."""
+        good = WELL_FORMED
+        for bad in ILL_FORMED:
+            for records in ([bad], [bad, *good], [*good[:2], bad, *good[2:]], [*good, bad], [bad, bad]):
+                self.check_broken(*self.by_hand(records))
+
+    def test_top_record_alone_at_a_step_back(self):
+        """A step-back asks nothing of those below, and a step of none."""
+        for bad in ILL_FORMED:
+            made, state = self.by_hand([bad, WELL_FORMED[1]])
+            self.check_broken(made, state)
+            self.assertEqual((sam.step_back(made, state), state.registers.used), (0, 3))
+
+    def test_left_over(self):
+        """A place below the records that is none, and a record that reaches below place 0."""
+        one = step_place(0, 0, 0, 0)
+        for places, kept in [
+            ([0, one], 1),
+            ([0, one], 2),
+            ([cell_place(0), one], 1),
+            ([self.JUNK, one], 1),
+            ([self.JUNK, cell_place(0), step_place()], 1),
+            ([0, 0, 0, one], 1),
+            ([0], 1),
+            ([step_place()], 1),  # of a cell that is not there
+            ([step_place(), one], 2),
+            ([cell_place(0), step_place(written=2)], 1),
+            ([step_place(), cell_place(0), step_place()], 2),
+            ([cell_place(0), step_place(written=2), one, one], 3),
+        ]:
+            made, state = self.by_hand([])
+            state.history[:] = places
+            state.registers = replace(state.registers, h=len(places), used=len(places), kept=kept)
+            self.check_broken(made, state)
+
+    def test_cut_from_the_top(self):
+        """By each step place's count, whatever marks stand below: a record of a cell place that has a mark is none."""
+        made, state = self.by_hand([[step_place(0, 0, 0, 0), step_place()]])
+        self.check_broken(made, state)
+        state.registers.kept = 2  # the step places
+        self.check_broken(made, state)
+
+    def test_kept_number(self):
+        """It "differs from the records in use", though every other call takes it."""
+        for records in (WELL_FORMED, WELL_FORMED[1:2], [WELL_FORMED[0]] * 5):
+            used = len(joined(records))
+            for kept in range(used + 3):
+                made, state = self.by_hand(records, kept=kept)
+                if kept == len(records):
+                    self.check_done(made, state, kept, records)
+                    continue
+                self.check_broken(made, state)
+                self.assertEqual(sam.step(made, state), 0 if 1 <= kept <= used else 10)
+
+    def test_records_of_an_unsound_kept_number(self):
+        """As for a step: above U, or 0 with U above 0."""
+        for kept in (0, 12, 1 << 32, (1 << 32) + 4, 1 << 63, DOUBLE_WORD - 1):
+            self.check_broken(*self.by_hand(WELL_FORMED, kept=kept))
+        for kept in (1, 1 << 32, DOUBLE_WORD - 1):
+            self.check_broken(*self.by_hand([], kept=kept))
+
+    def test_broken_registers(self):
+        """What is 10 of a step is 10 of a forget."""
+        for registers in [{"n": 3}, {"n": 5}, {"h": 12}, {"h": 14}, {"sp": 4}, {"fbr": 4}, {"pc": 5}, {"halt": 2},
+                          {"used": 14}, {"used": 0}, {"written": 4}, {"n": 0}, {"used": DOUBLE_WORD - 1}]:  # fmt: skip
+            self.check_broken(*self.by_hand(WELL_FORMED, **registers))
+
+    def test_broken_memory(self):
+        for address, tag, bits in [(0, 5, 0), (3, 255, 0), (1, CH, 128), (3, PA, 5)]:
+            made, state = self.by_hand(WELL_FORMED)
+            state.set_cell(address, tag, bits)
+            self.check_broken(made, state)
+        for name in ("bits", "tags", "history"):
+            made, state = self.by_hand(WELL_FORMED)
+            getattr(state, name).append(0)
+            self.check_broken(made, state)
+            made, state = self.by_hand(WELL_FORMED)
+            getattr(state, name).pop()
+            self.check_broken(made, state)
+        made, state = self.by_hand(WELL_FORMED)
+        state.output[:] = bytes(257)
+        self.check_broken(made, state)
+
+    def test_broken_table(self):
+        made, state = self.by_hand(WELL_FORMED)
+        for table, length in [(made.table, 1025), (made.table[:-1], 4), (made.table + [0], 4), (made.table, 3),
+                              ([54 << 32] + made.table[1:], 4), (made.table[:-1] + [1], 4)]:  # fmt: skip
+            self.check_broken(sam.Program(table, length), state)
+
+    def test_full_history(self):
+        """8,192 records: each is judged, the lowest too."""
+        made, state = started("a: JUMP a", n=4, h=8192)
+        self.assertEqual((sam.run(made, state, 9999), sam.step(made, state)), ((8, 8192), 8))
+        one = step_place(0, 0, 0, 0)
+        for at in (0, 1, 4000, 8191):
+            state.history[at] |= 1
+            self.check_refused(made, state, 1, 10)
+            state.history[at] = one
+        for k, kept in [(1, 8191), (8191, 8191), (8193, 8191)]:
+            state.registers.kept = kept
+            self.check_refused(made, state, k, 10)
+        state.registers.kept = 8192
+        self.check_refused(made, state, 8193, 14)
+        self.check_done(made, state, 8000, [[one]] * 8192)
+        self.check_done(made, state, 192, [[one]] * 192)
+
+    # ---- the room gained
+
+    def test_room_is_used(self):
+        """Five places: records of 2, 1 and 2 fill them."""
+        made, state = started("a: PUSHIMM 1 JUMP a", h=5)
+        push = [[cell_place(address), step_place(0, address, 0, 1)] for address in range(4)]
+        jump = [[step_place(1, sp, 0, 0)] for sp in range(4)]
+        self.assertEqual(sam.run(made, state, 99), (8, 3))
+        self.assertEqual(sam.step(made, state), 8)  # a JUMP
+        self.check_done(made, state, 1, [push[0], jump[1], push[1]])
+        self.assertEqual((sam.step(made, state), sam.step(made, state)), (0, 8))  # a PUSHIMM needs two, one is free
+        self.check_done(made, state, 1, [jump[1], push[1], jump[2]])
+        self.assertEqual((sam.step(made, state), sam.step(made, state)), (0, 8))
+        self.assertEqual(state.history, joined([push[1], jump[2], push[2]]))
+        self.check_done(made, state, 3, [push[1], jump[2], push[2]])
+        self.assertEqual(sam.run(made, state, 99), (8, 3))
+        self.assertEqual(state.history, joined([jump[3], push[3]]) + [step_place(1, 4, 0, 0), 0])
+
+    def test_too_little_room(self):
+        """Three places, two used by JUMPs; ADDSP 2 needs all three."""
+        made, state = started("JUMP 1 JUMP 2 ADDSP 2", h=3)
+        self.assertEqual(sam.run(made, state, 9), (8, 2))
+        self.check_done(made, state, 1, [[step_place(0, 0, 0, 0)], [step_place(1, 0, 0, 0)]])
+        self.assertEqual(sam.step(made, state), 8)
+        self.check_done(made, state, 1, [[step_place(1, 0, 0, 0)]])
+        self.assertEqual((sam.step(made, state), state.registers.used), (0, 3))
+        self.assertEqual(state.history, [cell_place(0), cell_place(1), step_place(2, 0, 0, 2)])
+
+    def test_output_stays(self):
+        """What was written is not forgotten; a step-back takes back the bytes of the steps that are kept."""
+        made, state = started("a: PUSHIMMCH 72 WRITECH JUMP a", h=16, output=8)
+        self.assertEqual(sam.run(made, state, 9), (50, 9))
+        self.assertEqual(sam.forget(made, state, 5), 0)  # two of three WRITECHs
+        self.assertEqual((bytes(state.output), state.registers.written), (b"HHH" + bytes(5), 3))
+        self.assertEqual([sam.step_back(made, state) for _ in range(5)], [0] * 4 + [9])
+        self.assertEqual((bytes(state.output), state.registers.written), (b"HH" + bytes(6), 2))
+
+    def test_complaint(self):
+        """P12, with the trial's older steps forgotten: tag and bits come back."""
+        made, state = started("PUSHIMM 40 PUSHIMMF #40200000 STOREOFF 0", h=6)
+        self.assertEqual(sam.run(made, state, 3), (50, 3))
+        self.assertEqual((sam.forget(made, state, 2), state.cell(0)), (0, (FLOAT, 0x40200000)))
+        self.assertEqual(state.history, [0x0000000000A00000, 0x8020080000400000, 0, 0, 0, 0])
+        self.assertEqual((sam.step_back(made, state), state.cell(0)), (0, (INT, 40)))
+        self.assertEqual(state.registers, sam.Registers(n=16, h=6, pc=2, sp=2))
+        self.assertFalse(any(state.history))
+        self.assertEqual((sam.step_back(made, state), sam.step(made, state)), (9, 0))
+
+    # ---- demand 3
+
+    def fresh_run(self, made, state, steps):
+        """After so many steps from a reset "with room for all its records, even above 8,192 (no refusal judges that
+        room), its other sizes the same"; and U after each number of steps."""
+        n, size = state.registers.n, len(state.output)
+        room = steps * (n + 1)  # a step writes no more than all cells
+        fresh = sam.State([0] * n, [INT] * n, [0] * room, bytearray(size), sam.Registers(n=n, h=room))
+        used = [0]
+        for _ in range(steps):
+            self.assertEqual(plain_step(made, fresh), 0)
+            used.append(fresh.registers.used)
+        return fresh, used
+
+    def check_demand(self, made, state, h, net_steps, forgotten):
+        """ "Cells, tags, registers other than H, U and the kept number, and output equal that run's; H stays as it
+        began." S minus B is `net_steps`, F `forgotten`; the places that the records of that run take."""
+        fresh, used = self.fresh_run(made, state, net_steps)
+        self.assertEqual((state.bits, state.tags, state.output), (fresh.bits, fresh.tags, fresh.output))
+        r = state.registers
+        self.assertEqual(r, replace(fresh.registers, h=h, used=r.used, kept=r.kept))
+        if h == 0:  # "there is no history and U is 0"
+            self.assertEqual((state.history, r.used, r.kept, forgotten), ([], 0, 0, 0))
+            return used[net_steps]
+        # "the first U places are exactly the newest S minus B minus F records of that run", "the other places are zero"
+        newest = fresh.history[used[forgotten] : used[net_steps]]
+        self.assertEqual((r.kept, r.used, len(state.history)), (net_steps - forgotten, len(newest), h))
+        self.assertEqual(state.history, newest + [0] * (h - len(newest)))
+        return used[net_steps]
+
+    def check_back(self, made, state, net_steps, forgotten):
+        """ "step-back is now refused exactly when S minus B equals F (or H = 0)"; whether it is accepted."""
+        number = sam.step_back(made, state)
+        self.assertEqual(number, 9 if net_steps == forgotten or state.registers.h == 0 else 0)
+        return number == 0
+
+    def any_call(self, chooser, made, state, net_steps, forgotten):
+        """S minus B and F after a call."""
+        kind, kept = chooser.randrange(8), state.registers.kept
+        if kind < 2:
+            return net_steps + (sam.step(made, state) == 0), forgotten
+        if kind < 4:
+            return net_steps - self.check_back(made, state, net_steps, forgotten), forgotten
+        if kind < 6:
+            _, steps = sam.run(made, state, chooser.randrange(16))
+            return net_steps + steps, forgotten
+        k = chooser.choice([0, 1, 1, 2, kept, kept + 1, chooser.randrange(kept + 1), (1 << 32) + kept])
+        number = sam.forget(made, state, k)
+        self.assertEqual(number, 14 if k > kept else 0)
+        return net_steps, forgotten + (k if number == 0 else 0)
+
+    def test_demand(self):
+        """Series of steps, runs, step-backs and forgets; then all that is kept is taken back."""
+        chooser = random.Random(9)
+        for h in [0, 1, 2, 5, 12, 40, 200] * 12:
+            made, n = drawn_program(chooser), chooser.choice([1, 2, 5, 16, 40])
+            state = sam.State([9] * n, [9] * n, [9] * h, bytearray([9] * chooser.choice([0, 1, 4, 256])))
+            self.assertEqual(sam.reset(made, state), 0)
+            net_steps = forgotten = 0
+            for _ in range(16):
+                net_steps, forgotten = self.any_call(chooser, made, state, net_steps, forgotten)
+                self.check_demand(made, state, h, net_steps, forgotten)
+            while self.check_back(made, state, net_steps, forgotten):
+                net_steps -= 1
+            self.check_demand(made, state, h, net_steps, forgotten)
+
+    def test_demand_in_a_long_session(self):
+        """Each time that the history is full some of it is forgotten, so that the records of the fresh run take more
+        than 8,192 places: records of 1 place, of 2 and 1, and of 31 and 1."""
+        for text, h, forgets in [
+            ("a: JUMP a", 8192, (5000, 8192, 1)),
+            ("a: PUSHIMM 7 ADDSP -1 JUMP a", 8192, (1, 3000, 6144)),
+            ("a: ADDSP 30 ADDSP -30 JUMP a", 8192, (100, 512)),
+            ("a: ADDSP 30 ADDSP -30 JUMP a", 40, (1, 2, 3) * 200),
+        ]:
+            made, state = started(text, n=32, h=h)
+            net_steps = forgotten = 0
+            for k in forgets:
+                _, steps = sam.run(made, state, 1000000)
+                k = min(k, state.registers.kept)
+                self.assertEqual(sam.forget(made, state, k), 0)
+                net_steps, forgotten = net_steps + steps, forgotten + k
+            self.assertGreater(self.check_demand(made, state, h, net_steps, forgotten), 8192)
+            while self.check_back(made, state, net_steps, forgotten):
+                net_steps -= 1
+            self.check_demand(made, state, h, net_steps, forgotten)
+
+
 class Soundness(unittest.TestCase):
     def broken(self, **changes):
         """The numbers of step and step-back on a state with one fault."""
@@ -2218,33 +2663,27 @@ class Soundness(unittest.TestCase):
         self.assertEqual(sam.step(made, state), 0)
 
     def test_records(self):
-        def cell(address, tag=0, bits=0, rest=0):
-            return address << 53 | tag << 50 | bits << 18 | rest
-
-        def mark(pc=0, sp=0, fbr=0, written=1, rest=0):
-            return 1 << 63 | pc << 52 | sp << 42 | fbr << 32 | written << 22 | rest
-
         for places, number in [
-            ([cell(0), mark()], 0),
-            ([cell(3, PA, 4), mark(pc=3, sp=3, fbr=3)], 0),
-            ([cell(3, PA, 5), mark()], 10),
-            ([cell(3, CH, 127), mark()], 0),
-            ([cell(3, CH, 128), mark()], 10),
-            ([cell(3, CH, WORD - 1), mark()], 10),
-            ([cell(3, 5), mark()], 10),
-            ([cell(3, 7), mark()], 10),
-            ([cell(4), mark()], 10),
-            ([cell(0, rest=1), mark()], 10),
-            ([cell(0, rest=1 << 17), mark()], 10),
-            ([cell(0, INT, 1), mark()], 0),
-            ([mark(), mark()], 10),
-            ([cell(0), mark(rest=1)], 10),
-            ([cell(0), mark() - (1 << 63)], 10),
-            ([cell(0), mark(pc=4)], 10),
-            ([cell(0), mark(sp=4)], 10),
-            ([cell(0), mark(fbr=4)], 10),
-            ([cell(0), mark(written=2)], 10),
-            ([~0 % (1 << 64), mark(written=0)], 0),
+            ([cell_place(0), step_place()], 0),
+            ([cell_place(3, PA, 4), step_place(pc=3, sp=3, fbr=3)], 0),
+            ([cell_place(3, PA, 5), step_place()], 10),
+            ([cell_place(3, CH, 127), step_place()], 0),
+            ([cell_place(3, CH, 128), step_place()], 10),
+            ([cell_place(3, CH, WORD - 1), step_place()], 10),
+            ([cell_place(3, 5), step_place()], 10),
+            ([cell_place(3, 7), step_place()], 10),
+            ([cell_place(4), step_place()], 10),
+            ([cell_place(0) | 1, step_place()], 10),
+            ([cell_place(0) | 1 << 17, step_place()], 10),
+            ([cell_place(0, INT, 1), step_place()], 0),
+            ([step_place(), step_place()], 10),
+            ([cell_place(0), step_place() | 1], 10),
+            ([cell_place(0), step_place() - (1 << 63)], 10),
+            ([cell_place(0), step_place(pc=4)], 10),
+            ([cell_place(0), step_place(sp=4)], 10),
+            ([cell_place(0), step_place(fbr=4)], 10),
+            ([cell_place(0), step_place(written=2)], 10),
+            ([~0 % (1 << 64), step_place(written=0)], 0),
         ]:
             self.assertEqual(self.broken(history=places), number, places)
 

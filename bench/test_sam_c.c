@@ -1,5 +1,5 @@
-/* Tests of the C library through sam.h: the complaint of document 01, those of requests b and d, requests e, f, g and
- * h, and samples of every refusal. One line for each check. */
+/* Tests of the C library through sam.h: the complaint of document 01, those of requests b and d, requests e to i, and
+ * samples of every refusal. One line for each check. */
 #include <stdbool.h>
 #include <stdio.h>
 #include <string.h>
@@ -83,6 +83,11 @@ static uint32_t step(void) {
 static uint32_t step_back(void) {
     return sam_step_back(table, SAM_TABLE_PLACES, length, registers, SAM_REGISTERS, bits, n, tags, n, history, h,
                          output, output_len);
+}
+
+static uint32_t forget(uint64_t k) {
+    return sam_forget(table, SAM_TABLE_PLACES, length, k, registers, SAM_REGISTERS, bits, n, tags, n, history, h,
+                      output, output_len);
 }
 
 static uint32_t run(uint64_t limit) {
@@ -950,6 +955,8 @@ static void check_all_refused(void) {
     remember();
     check("  step", 10, step());
     check("  step-back", 10, step_back());
+    check("  forget", 10, forget(0));
+    check("  10 before 14", 10, forget(UINT64_MAX));
     for (uint64_t limit = 0; limit <= 9; limit += 9) {
         mark_told();
         check("  run", 10, run(limit));
@@ -1164,6 +1171,10 @@ static void check_steps_with(size_t len) {
                                  output_len));
     check("  back", 10, sam_step_back(table, SAM_TABLE_PLACES, length, registers, len, bits, n, tags, n, history, h,
                                       output, output_len));
+    for (uint64_t k = 0; k <= 2; k++) { /* one step is kept */
+        check("  forget", 10, sam_forget(table, SAM_TABLE_PLACES, length, k, registers, len, bits, n, tags, n, history,
+                                         h, output, output_len));
+    }
 }
 
 /* With nine registers, a told of one and nothing beyond its sizes each call would be done. */
@@ -1267,6 +1278,8 @@ static void broken(const char *name, uint64_t *value, uint64_t wrong) {
     *value = wrong;
     check(name, 10, step());
     check(name, 10, step_back());
+    check(name, 10, forget(0));
+    check(name, 10, forget(UINT64_MAX));
     check(name, 10, run(1));
     check_dwell(name, 10, 0);
     check(name, wrong, *value);
@@ -1307,6 +1320,7 @@ static void test_broken(void) {
     tags[3] = SAM_INT, bits[3] = 0;
     history[1] |= 1;
     check("  top record", 10, step_back());
+    check("  top record", 10, forget(1));
     check_dwell("  top record", 60, 0);
     history[1] &= ~UINT64_C(1);
     check("  all set right", 0, step_back());
@@ -1708,6 +1722,355 @@ static void test_characters(void) {
     check("  operand 128", 10, list());
 }
 
+/* ---- request i: forget the oldest trials */
+
+/* Fields of a history place, at their bits. */
+#define AT(bit, value) ((uint64_t)(value) << (bit))
+#define PLACE_OF_CELL(address, tag, value) (AT(53, address) | AT(50, tag) | AT(18, value))
+#define PLACE_OF_STEP(pc, sp, fbr, cells) (AT(63, 1) | AT(52, pc) | AT(42, sp) | AT(32, fbr) | AT(22, cells))
+
+/* The records of SEVEN_STEPS, worked out by hand. */
+static const uint64_t seven_records[] = {
+    PLACE_OF_CELL(0, SAM_INT, 0), PLACE_OF_STEP(0, 0, 0, 1),                                /* PUSHIMM */
+    PLACE_OF_CELL(1, SAM_INT, 0), PLACE_OF_STEP(1, 1, 0, 1),                                /* DUP */
+    PLACE_OF_CELL(0, SAM_INT, 1), PLACE_OF_CELL(1, SAM_INT, 1), PLACE_OF_STEP(2, 2, 0, 2),  /* SWAP */
+    PLACE_OF_CELL(0, SAM_INT, 1), PLACE_OF_STEP(3, 2, 0, 1),                                /* ADD */
+    PLACE_OF_STEP(4, 1, 0, 0),                                                              /* JUMP */
+    PLACE_OF_CELL(1, SAM_INT, 1), PLACE_OF_CELL(2, SAM_INT, 0), PLACE_OF_STEP(5, 1, 0, 2),  /* ADDSP */
+    PLACE_OF_STEP(6, 3, 0, 0),                                                              /* STOP */
+};
+
+/* Numbers of steps that are never kept, some with an allowed number in their lower half. */
+static const uint64_t too_many[] = {
+    UINT64_C(1) << 32, (UINT64_C(1) << 32) + 1, (UINT64_C(1) << 32) + 7, UINT64_C(1) << 63, UINT64_MAX,
+};
+
+/* Something in every place above U, and in all memory behind what is lent. */
+static void mark_unused(void) {
+    for (size_t i = registers[SAM_U]; i <= SAM_HISTORY_LIMIT; i++) history[i] = MARK;
+    for (size_t i = n; i <= SAM_CELL_LIMIT; i++) bits[i] = tags[i] = MARK;
+    memset(output + output_len, MARK, sizeof output - output_len);
+    registers[SAM_REGISTERS] = MARK;
+}
+
+static void check_ends_marked(void) {
+    check("  behind the registers", MARK, registers[SAM_REGISTERS]);
+    check("  behind the history", MARK, history[SAM_HISTORY_LIMIT]);
+}
+
+/* The oldest k go, which have so many places: the rest is moved down, the room is zero, and nothing else changes. */
+static void check_forgotten(uint64_t k, uint64_t places) {
+    uint64_t left = registers[SAM_U] - places;
+    remember();
+    check("  forget", 0, forget(k));
+    memmove(before.history, before.history + places, left * sizeof history[0]);
+    memset(before.history + left, 0, places * sizeof history[0]);
+    before.registers[SAM_U] = left;
+    before.registers[SAM_KEPT] -= k;
+    check_unchanged("  as worked out");
+    check_ends_marked();
+}
+
+static void check_forget_refused(uint64_t k, uint32_t number) {
+    remember();
+    check("  forget", number, forget(k));
+    check_unchanged("  nothing changed");
+    check_ends_marked();
+}
+
+static void test_forget(void) {
+    for (uint64_t k = 0; k <= 7; k++) {
+        printf("%llu of seven steps forgotten, and the rest taken back\n", (unsigned long long)k);
+        begin(SEVEN_STEPS, 16, 20);
+        check("  run", 0, run(100));
+        check("  the records", 0, (uint64_t)(memcmp(history, seven_records, sizeof seven_records) != 0));
+        mark_unused();
+        check_forget_refused(8, 14);
+        for (size_t i = 0; i < sizeof too_many / sizeof too_many[0]; i++) check_forget_refused(too_many[i], 14);
+        check_forgotten(k, used_after[k]);
+        check_forget_refused(8 - k, 14);
+        for (uint64_t kept = 7 - k; kept-- > 0;) {
+            check("  step-back", 0, step_back());
+            check_count("  kept", kept, used_after[kept + k] - used_after[k]);
+        }
+        check("  PC of the oldest that is kept", k < 7 ? k : 6, registers[SAM_PC]);
+        check("  step-back", 9, step_back());
+        check_forgotten(0, 0);
+        check_forget_refused(1, 14);
+    }
+}
+
+static void test_forget_without_history(void) {
+    puts("a forget with H = 0");
+    begin(SEVEN_STEPS, 16, 0);
+    check("  run", 50, run(3));
+    mark_unused();
+    check_forgotten(0, 0);
+    check_forget_refused(1, 14);
+    for (size_t i = 0; i < sizeof too_many / sizeof too_many[0]; i++) check_forget_refused(too_many[i], 14);
+    registers[SAM_KEPT] = 1;
+    check_forget_refused(0, 10);
+    check_forget_refused(2, 10);
+}
+
+/* Records for JUMP 1 WRITECH STOP and four cells: two cell places, of a FLOAT and of a CH, and a step place. */
+#define FIRST_PLACE PLACE_OF_CELL(0, SAM_FLOAT, 5)
+#define SECOND_PLACE PLACE_OF_CELL(2, SAM_CH, 127)
+#define LAST_PLACE PLACE_OF_STEP(2, 3, 3, 2)
+#define TOP_BIT (UINT64_C(1) << 63)
+
+enum { RECORD_PLACES = 3, RECORDS = 5 };
+
+static const uint64_t formed[RECORD_PLACES] = {FIRST_PLACE, SECOND_PLACE, LAST_PLACE};
+
+static const struct { const char *name; uint64_t places[RECORD_PLACES]; } ill_formed_records[] = {
+    {"the step place without its mark", {FIRST_PLACE, SECOND_PLACE, LAST_PLACE & ~TOP_BIT}},
+    {"a cell place with a mark", {FIRST_PLACE, SECOND_PLACE | TOP_BIT, LAST_PLACE}},
+    {"the lowest cell place with a mark", {FIRST_PLACE | TOP_BIT, SECOND_PLACE, LAST_PLACE}},
+    {"PC at the length", {FIRST_PLACE, SECOND_PLACE, PLACE_OF_STEP(3, 3, 3, 2)}},
+    {"PC 2,047", {FIRST_PLACE, SECOND_PLACE, PLACE_OF_STEP(2047, 3, 3, 2)}},
+    {"SP at N", {FIRST_PLACE, SECOND_PLACE, PLACE_OF_STEP(2, 4, 3, 2)}},
+    {"FBR at N", {FIRST_PLACE, SECOND_PLACE, PLACE_OF_STEP(2, 3, 4, 2)}},
+    {"an address at N", {FIRST_PLACE, PLACE_OF_CELL(4, SAM_INT, 0), LAST_PLACE}},
+    {"the same address", {FIRST_PLACE, PLACE_OF_CELL(0, SAM_INT, 0), LAST_PLACE}},
+    {"falling addresses", {SECOND_PLACE, FIRST_PLACE, LAST_PLACE}},
+    {"tag 5", {PLACE_OF_CELL(0, 5, 0), SECOND_PLACE, LAST_PLACE}},
+    {"tag 7", {FIRST_PLACE, PLACE_OF_CELL(2, 7, 0), LAST_PLACE}},
+    {"CH 128", {FIRST_PLACE, PLACE_OF_CELL(2, SAM_CH, 128), LAST_PLACE}},
+    {"PA above the length", {PLACE_OF_CELL(0, SAM_PA, 4), SECOND_PLACE, LAST_PLACE}},
+    {"a cell that is not there", {FIRST_PLACE, SECOND_PLACE, PLACE_OF_STEP(2, 3, 3, 3)}},
+    {"1,023 cells", {FIRST_PLACE, SECOND_PLACE, PLACE_OF_STEP(2, 3, 3, 1023)}},
+    {"a cell place left over", {FIRST_PLACE, SECOND_PLACE, PLACE_OF_STEP(2, 3, 3, 1)}},
+    {"two cell places left over", {FIRST_PLACE, SECOND_PLACE, PLACE_OF_STEP(2, 3, 3, 0)}},
+    {"zeros", {0, 0, 0}},
+    {"ones", {UINT64_MAX, UINT64_MAX, UINT64_MAX}},
+};
+
+/* Five records, of which that at this depth from place 0 is another. */
+static void make_records(size_t depth, const uint64_t *odd) {
+    begin("JUMP 1 WRITECH STOP", 4, RECORDS * RECORD_PLACES + 2);
+    for (size_t i = 0; i < RECORDS; i++) {
+        memcpy(history + i * RECORD_PLACES, i == depth ? odd : formed, sizeof formed);
+    }
+    registers[SAM_U] = RECORDS * RECORD_PLACES;
+    registers[SAM_KEPT] = RECORDS;
+    mark_unused();
+}
+
+/* 10, whatever k is. */
+static void check_records_refused(void) {
+    static const uint64_t numbers[] = {0, 1, RECORDS, RECORDS + 1, UINT64_MAX};
+    for (size_t i = 0; i < sizeof numbers / sizeof numbers[0]; i++) check_forget_refused(numbers[i], 10);
+}
+
+/* Each zero of the record's places is another. */
+static void check_zeros(size_t depth) {
+    static const int zeros[RECORD_PLACES] = {18, 18, 22};
+    for (size_t place = 0; place < RECORD_PLACES; place++) {
+        for (int bit = 0; bit < zeros[place]; bit++) {
+            uint64_t odd[RECORD_PLACES] = {FIRST_PLACE, SECOND_PLACE, LAST_PLACE};
+            odd[place] |= UINT64_C(1) << bit;
+            make_records(depth, odd);
+            check_forget_refused(1, 10);
+        }
+    }
+}
+
+static void test_forget_records(void) {
+    for (size_t depth = 0; depth < RECORDS; depth++) {
+        printf("records that are ill-formed, with %zu below and %zu above\n", depth, RECORDS - 1 - depth);
+        for (size_t i = 0; i < sizeof ill_formed_records / sizeof ill_formed_records[0]; i++) {
+            printf("  %s\n", ill_formed_records[i].name);
+            make_records(depth, ill_formed_records[i].places);
+            check_records_refused();
+            if (depth < RECORDS - 1) check("  step-back of the top record", 0, step_back());
+        }
+        check_zeros(depth);
+        make_records(depth, formed);
+        check_forgotten(depth, depth * RECORD_PLACES);
+    }
+}
+
+/* Places in use that are records but for what is left over below, or for a record that reaches below place 0. */
+static const struct { uint64_t used, kept, places[4]; } left_over[] = {
+    {1, 1, {0}},
+    {1, 1, {PLACE_OF_STEP(0, 0, 0, 1)}},
+    {2, 1, {0, PLACE_OF_STEP(0, 0, 0, 0)}},
+    {2, 2, {0, PLACE_OF_STEP(0, 0, 0, 0)}},
+    {2, 1, {FIRST_PLACE, PLACE_OF_STEP(0, 0, 0, 0)}},
+    {2, 1, {UINT64_MAX, PLACE_OF_STEP(0, 0, 0, 0)}},
+    {2, 1, {FIRST_PLACE, PLACE_OF_STEP(0, 0, 0, 2)}},
+    {2, 2, {PLACE_OF_STEP(0, 0, 0, 1), PLACE_OF_STEP(0, 0, 0, 0)}},
+    {4, 2, {PLACE_OF_STEP(0, 0, 0, 1), FIRST_PLACE, SECOND_PLACE, PLACE_OF_STEP(0, 0, 0, 2)}},
+    {4, 1, {0, 0, FIRST_PLACE, PLACE_OF_STEP(0, 0, 0, 1)}},
+    {4, 2, {FIRST_PLACE, FIRST_PLACE, PLACE_OF_STEP(0, 0, 0, 1), PLACE_OF_STEP(0, 0, 0, 0)}},
+};
+
+static void test_forget_left_over(void) {
+    puts("places left over below the records, and records that reach below place 0");
+    for (size_t i = 0; i < sizeof left_over / sizeof left_over[0]; i++) {
+        begin("JUMP 1 WRITECH STOP", 4, 8);
+        memcpy(history, left_over[i].places, sizeof left_over[i].places);
+        registers[SAM_U] = left_over[i].used;
+        registers[SAM_KEPT] = left_over[i].kept;
+        mark_unused();
+        check_records_refused();
+    }
+}
+
+static void test_forget_kept_numbers(void) {
+    puts("kept numbers that are not that of the records, of three and of one place");
+    for (uint64_t kept = 0; kept <= RECORDS * RECORD_PLACES + 1; kept++) {
+        make_records(0, formed);
+        registers[SAM_KEPT] = kept;
+        if (kept == RECORDS) check_forgotten(RECORDS, RECORDS * RECORD_PLACES);
+        else check_records_refused();
+    }
+    for (uint64_t kept = 0; kept <= 9; kept++) {
+        make_by_hand(8, 8, kept, short_record, 1);
+        mark_unused();
+        if (kept == 8) check_forgotten(3, 3);
+        else check_records_refused();
+    }
+    make_records(0, formed);
+    registers[SAM_KEPT] = RECORDS - 1;
+    check("  a step takes it", 0, step());
+}
+
+static void test_forget_unwritten(void) {
+    static const uint64_t writing[RECORD_PLACES] = {FIRST_PLACE, SECOND_PLACE, PLACE_OF_STEP(1, 3, 3, 2)};
+    puts("a WRITECH's record with nothing written");
+    for (size_t depth = 0; depth < RECORDS; depth++) {
+        make_records(depth, writing);
+        remember();
+        check("  step-back", depth == RECORDS - 1 ? 10 : 0, step_back());
+        if (depth == RECORDS - 1) check_unchanged("  nothing changed");
+        make_records(depth, writing);
+        check_forgotten(2, 2 * RECORD_PLACES);
+    }
+}
+
+/* Neither 1 nor 2 is asked, and 10 comes before 14. */
+static void test_order_of_forget(void) {
+    puts("a forget of a halted machine, and at the end of the program");
+    make_records(0, formed);
+    registers[SAM_HALT] = 1;
+    check_forgotten(1, RECORD_PLACES);
+    registers[SAM_PC] = length;
+    check_forgotten(1, RECORD_PLACES);
+    check_forget_refused(RECORDS, 14);
+    puts("10 before 14");
+    tags[3] = 5;
+    check_records_refused();
+    tags[3] = SAM_INT;
+    registers[SAM_WRITTEN] = output_len + 1;
+    check_records_refused();
+    registers[SAM_WRITTEN] = 0;
+    length = SAM_TABLE_PLACES + 1;
+    check_records_refused();
+    length = 3;
+    check_forget_refused(RECORDS, 14);
+    check_forgotten(3, 3 * RECORD_PLACES);
+}
+
+/* Five places: records of two, one and two fill them. */
+static void test_forget_gains_room(void) {
+    puts("8, a forget, and the room used");
+    begin("a: PUSHIMM 1 JUMP a", 16, 5);
+    mark_unused();
+    check("  run", 8, run(100));
+    check_count("  kept", 3, 5);
+    check_refused_again(8);
+    check_forgotten(1, 2);
+    check("  JUMP", 0, step());
+    check("  PUSHIMM, where one place is free", 8, step());
+    check_forgotten(1, 1);
+    check("  PUSHIMM", 0, step());
+    check_refused_again(8);
+    check("  oldest", PLACE_OF_STEP(0, 1, 0, 1), history[1]);
+    check("  newest", PLACE_OF_STEP(0, 2, 0, 1), history[4]);
+    check_forgotten(3, 5);
+    check("  run", 8, run(100));
+    check("  steps", 3, told[0]);
+    check_count("  kept", 3, 4);
+    check_ends_marked();
+}
+
+/* Steps that are forgotten whenever the history is full: more than it has places in all. */
+static void test_long_session(void) {
+    static const uint64_t forgotten[] = {1, 5000, SAM_HISTORY_LIMIT, 4096, 1};
+    puts("a long session in 8,192 places");
+    begin("a: JUMP a", 1, SAM_HISTORY_LIMIT);
+    check("  run", 8, run(SAM_RUN_LIMIT));
+    check("  steps", SAM_HISTORY_LIMIT, told[0]);
+    mark_unused();
+    for (size_t i = 0; i < sizeof forgotten / sizeof forgotten[0]; i++) {
+        history[0] |= 1;
+        check_forget_refused(1, 10);
+        history[0] &= ~UINT64_C(1);
+        check_forget_refused(SAM_HISTORY_LIMIT + 1, 14);
+        check_forgotten(forgotten[i], forgotten[i]);
+        check("  run", 8, run(SAM_RUN_LIMIT));
+        check("  steps", forgotten[i], told[0]);
+        check_count("  kept", SAM_HISTORY_LIMIT, SAM_HISTORY_LIMIT);
+    }
+}
+
+/* Two of three characters belong to steps that are forgotten: they stay. */
+static void test_forget_leaves_output(void) {
+    puts("characters of steps that are forgotten");
+    output_len = 4;
+    begin("a: PUSHIMMCH 72 WRITECH JUMP a", 4, 16);
+    check("  run", 50, run(9));
+    mark_unused();
+    check_forgotten(5, 7);
+    check_output("  written", "HHH", 3);
+    for (int i = 0; i < 4; i++) check("  step-back", 0, step_back());
+    check("  step-back", 9, step_back());
+    check_output("  written", "HH", 2);
+    check("  dropped byte", 0, output[2]);
+    check("  run", 50, run(6));
+    check_forgotten(6, 8);
+    check_output("  written", "HHHH", 4);
+    output_len = SAM_OUTPUT_LIMIT;
+}
+
+/* The complaint of document 01, and at the doors: what is older than the trial's last step is forgotten first. */
+static void test_complaint_after_forget(void) {
+    puts("the complaint, after the steps before the trial were forgotten");
+    begin("PUSHIMM 40 PUSHIMMF #40200000 STOREOFF 0", 16, 6);
+    check("  run", 50, run(3));
+    mark_unused();
+    check_forgotten(2, 4);
+    check_cell("  the trial", 0, SAM_FLOAT, 0x40200000);
+    check("  cell place", UINT64_C(0x0000000000A00000), history[0]);
+    check("  step place", UINT64_C(0x8020080000400000), history[1]);
+    check("  step-back", 0, step_back());
+    check_cell("  tag and bits", 0, SAM_INT, 40);
+    check_count("  kept", 0, 0);
+    check("  PC", 2, registers[SAM_PC]);
+    check("  SP", 2, registers[SAM_SP]);
+    for (size_t i = 0; i < 6; i++) check("  freed place", 0, history[i]);
+    check("  step-back", 9, step_back());
+    puts("the complaint at the doors, with all but the trial's last steps forgotten");
+    begin(TRIAL, 16, 16);
+    check("  run", 0, run(100));
+    check_dwell("  read", 0, 25);
+    mark_unused();
+    check_forgotten(2, 4);
+    check_dwell("  read", 0, 25);
+    check("  STOP taken back", 0, step_back());
+    check_dwell("  not halted", 60, 0);
+    check("  STOREOFF taken back", 0, step_back());
+    check_cell("  tag and bits", 0, SAM_INT, 40);
+    check("  step-back", 9, step_back());
+    check("  assemble the program", 0, assemble(DOORS));
+    registers[SAM_PC] = 1;
+    registers[SAM_SP] = 1;
+    check("  STOP", 0, step());
+    check_dwell("  read", 0, 40);
+}
+
 /* ---- lists and images */
 
 static void test_list(void) {
@@ -1801,6 +2164,17 @@ int main(void) {
     test_odd_cells();
     test_records_of_writing();
     test_characters();
+    test_forget();
+    test_forget_without_history();
+    test_forget_records();
+    test_forget_left_over();
+    test_forget_kept_numbers();
+    test_forget_unwritten();
+    test_order_of_forget();
+    test_forget_gains_room();
+    test_long_session();
+    test_forget_leaves_output();
+    test_complaint_after_forget();
     test_list();
     test_images();
     printf("%u checks, %u failed\n", checks, failed);

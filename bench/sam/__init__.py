@@ -1,10 +1,10 @@
-"""An interpreter of document 01 with requests a, b, d, e, f, g and h of document 02, written from the documents and
-their settled readings, to compare the proved one with."""
+"""An interpreter of document 01 with requests a, b and d to i of document 02, written from the documents and their
+settled readings, to compare the proved one with."""
 
 from .console import cell_line, console
 from .dwell import dwell
 from .image import pack, unpack
-from .machine import Program, Registers, State, reset, run, sound, step, step_back
+from .machine import Program, Registers, State, forget, reset, run, sound, step, step_back
 from .text import assemble, list_program
 
 __all__ = [
@@ -15,6 +15,7 @@ __all__ = [
     "cell_line",
     "console",
     "dwell",
+    "forget",
     "list_program",
     "pack",
     "reset",

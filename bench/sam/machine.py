@@ -1,5 +1,5 @@
-"""Reset, step, step-back and run: document 01, "Numbers given back" and "History places", and requests g and h of
-document 02."""
+"""Reset, step, step-back, run and forget: document 01, "Numbers given back" and "History places", and requests g, h and
+i of document 02."""
 
 from dataclasses import dataclass, field, replace
 
@@ -138,22 +138,22 @@ class Record:
     cells: list  # (address, old tag, old bits)
 
 
-def top_record(state):
-    """The record that ends at U, or nothing where its marks and zeros are wrong or it does not lie within U."""
-    used = state.registers.used
-    last = state.history[used - 1]
+def record_ending(history, end):
+    """The record whose step place is the last below this end, or nothing where its marks and zeros are wrong or it does
+    not lie within the places below."""
+    last = history[end - 1]
     pc, sp, fbr, written = split_step_place(last)
-    if last != step_place(pc, sp, fbr, written) or written + 1 > used:
+    if last != step_place(pc, sp, fbr, written) or written + 1 > end:
         return None
-    start = used - 1 - written
-    places = state.history[start : used - 1]
+    start = end - 1 - written
+    places = history[start : end - 1]
     cells = [split_cell_place(place) for place in places]
     if any(place != cell_place(*cell) for place, cell in zip(places, cells)):
         return None
     return Record(start, pc, sp, fbr, cells)
 
 
-def record_sound(record, n, length):
+def fields_sound(record, n, length):
     """ "old PC below length, SP, FBR and addresses below N, addresses rising strictly, restored PAs at most length";
     request h: no "restored tag above 4 or CH above 127" """
     addresses = [address for address, _, _ in record.cells]
@@ -165,6 +165,27 @@ def record_sound(record, n, length):
         and all(low < high for low, high in zip(addresses, addresses[1:]))
         and all(cell_sound(tag, bits, length) for _, tag, bits in record.cells)
     )
+
+
+def well_formed_record(program, state, end):
+    """The record that ends there, or nothing where it is ill-formed: of the top one a step-back asks it, of every used
+    one a forget."""
+    record = record_ending(state.history, end)
+    is_formed = record is not None and fields_sound(record, state.registers.n, program.length)
+    return record if is_formed else None
+
+
+def used_records(program, state):
+    """The records in use, the newest first, or nothing where one is ill-formed. Each lies below the one above it, down
+    to place 0: what is left there and is no record is an ill-formed one."""
+    records, end = [], state.registers.used
+    while end > 0:
+        record = well_formed_record(program, state, end)
+        if record is None:
+            return None
+        records.append(record)
+        end = record.start
+    return records
 
 
 def is_of_writing(record, program):
@@ -270,8 +291,8 @@ def step_back(program, state):
     registers = state.registers
     if registers.used == 0:
         return 9
-    record = top_record(state)
-    if record is None or not record_sound(record, registers.n, program.length):
+    record = well_formed_record(program, state, registers.used)
+    if record is None:
         return 10
     written = registers.written
     if is_of_writing(record, program):
@@ -284,4 +305,23 @@ def step_back(program, state):
     state.history[record.start : registers.used] = [0] * (len(record.cells) + 1)
     back = replace(registers, pc=record.pc, sp=record.sp, fbr=record.fbr, halt=0)
     state.registers = replace(back, used=record.start, kept=registers.kept - 1, written=written)
+    return 0
+
+
+def forget(program, state, k):
+    """Request i: "10 first, also when any used record is ill-formed or the kept number differs from the records in use;
+    then 14 when k is above the kept number". Whether something is written is a step-back's question alone."""
+    if not sound(program, state):
+        return 10
+    registers = state.registers
+    records = used_records(program, state)
+    if records is None or len(records) != registers.kept:
+        return 10
+    if k > registers.kept:
+        return 14
+    staying = records[: registers.kept - k]
+    gained = staying[-1].start if staying else registers.used  # the places of the k oldest
+    rest = state.history[gained : registers.used]
+    state.history[: registers.used] = rest + [0] * gained  # "moves the rest down, and zeroes the room gained"
+    state.registers = replace(registers, used=len(rest), kept=len(staying))
     return 0
