@@ -9,9 +9,9 @@ use borrow.Rule.Slice.PartMut.{putMid}
 use borrow.Author.Tests.{ne-eqb}
 use Rattle.rules.specs.Lists.{part, splice}
 use Rattle.rules.specs.Table.{Program}
-use Rattle.rules.specs.State.{Memory, sound}
+use Rattle.rules.specs.State.{Memory, registersHolding, sound}
 use Rattle.rules.specs.Records.{recordsInUse, formedRecords, placesTaken}
-use Rattle.rules.specs.Forget.{freed, movedDown, registersHolding, forgotten, notForgotten, forget}
+use Rattle.rules.specs.Forget.{freed, movedDown, forgotten, notForgotten, forget}
 use Rattle.rules.specs.declared.Registers.{Registers}
 use Rattle.rules.specs.declared.ForgetRefusal.the-variants.{RecordsBroken, TooManySteps}
 use Rattle.rules.specs.declared.Forgot.the-variants.{Forgotten}
@@ -65,7 +65,7 @@ module _ (p : Program) (k : ℕ) (r : Registers) (m : Memory) where
         forget-more h = forget-too-many p k r m s all-formed (counted ∙ many) h
 
         pub forget-moved : k ≤ r .kept → (history : List ℕ) → history ≡ movedDown (w .below) (r .used) (m .history)
-            → forgot (Forgotten (registersHolding (r .used - w .below) stay r)) (m .cells .bits) (m .cells .tags) history (m .output) ≡ forget p k r m
+            → forgot (Forgotten (registersHolding (r .h) (r .used - w .below) stay r)) (m .cells .bits) (m .cells .tags) history (m .output) ≡ forget p k r m
         forget-moved h history moved =
-            (λ i. forgot (Forgotten (registersHolding (r .used - w .below) (left i) r)) (m .cells .bits) (m .cells .tags) (moved i) (m .output))
+            (λ i. forgot (Forgotten (registersHolding (r .h) (r .used - w .below) (left i) r)) (m .cells .bits) (m .cells .tags) (moved i) (m .output))
             ∙ ap (λ (free : ℕ). forgotten free k r m) free-is ∙ sym (forget-done p k r m s all-formed (counted ∙ many) h)

@@ -12,7 +12,7 @@ use borrow.Author.Tests.{le-leb, leb-true, eq-eqb}
 use Rattle.rules.specs.Lists.{every}
 use Rattle.rules.specs.Sizes.{maxHistory}
 use Rattle.rules.specs.Table.{Program}
-use Rattle.rules.specs.State.{Memory, sound}
+use Rattle.rules.specs.State.{Memory, registersHolding, sound}
 use Rattle.rules.specs.Commit.{recordOf, grown, historyAfter, outputAfter, registersWith, cellsAfter, roomIn}
 use Rattle.rules.specs.Step.{judged, unchanged}
 use Rattle.rules.specs.Back.{back}
@@ -41,18 +41,7 @@ use Rattle.promises.proofs.Demand3Run.{plain, made-fair}
 abbrev pub held : ℕ → List (List ℕ) → Unbounded → State
 held h ls x =
     record {
-      registers =
-          record {
-            n = x .registers .n;
-            h = h;
-            pc = x .registers .pc;
-            sp = x .registers .sp;
-            fbr = x .registers .fbr;
-            halt = x .registers .halt;
-            used = length (placesOf ls);
-            kept = length ls;
-            written = x .registers .written;
-          };
+      registers = registersHolding h (length (placesOf ls)) (length ls) (x .registers);
       memory = record { cells = x .cells; history = placesOf ls ++ replicate (h - length (placesOf ls)) 0; output = x .output };
     }
 
@@ -219,7 +208,7 @@ module _ (p : Program) (h : ℕ) (short : h ≤ maxHistory) where
         rw (tests, le-leb k (length ls) few)
         (ap (λ (n : ℕ). Forget.forgotten n k r m) free
         ∙ (λ j. record {
-          answer = Forgotten (Forget.registersHolding (used j) (kept j) r);
+          answer = Forgotten (registersHolding h (used j) (kept j) r);
           memory = record { cells = x .cells; history = moved-held i j; output = x .output };
         }))
 

@@ -7,7 +7,7 @@ use lib.ListN.{length, drop, replicate}
 use lib.Dec.{leb, eqb}
 use Rattle.rules.specs.Lists.{every, part}
 use Rattle.rules.specs.Table.{Program}
-use Rattle.rules.specs.State.{Memory, sound}
+use Rattle.rules.specs.State.{Memory, registersHolding, sound}
 use Rattle.rules.specs.Records.{recordsInUse, formedRecords, placesTaken}
 use Rattle.rules.specs.declared.Registers.{Registers}
 use Rattle.rules.specs.declared.ForgetRefusal.{ForgetRefusal}
@@ -36,26 +36,11 @@ freed k r m = placesTaken (drop (r .kept - k) (recordsInUse r m))
 abbrev pub movedDown : (free used : ℕ) → List ℕ → List ℕ
 movedDown free used history = part free (used - free) history ++ (replicate free 0 ++ drop used history)
 
--- with so many places used and so many steps kept, and no other register changed
-abbrev pub registersHolding : (used kept : ℕ) → Registers → Registers
-registersHolding used kept r =
-    record {
-      n = r .n;
-      h = r .h;
-      pc = r .pc;
-      sp = r .sp;
-      fbr = r .fbr;
-      halt = r .halt;
-      used = used;
-      kept = kept;
-      written = r .written;
-    }
-
 -- U and the kept number fall; cells and output stay
 abbrev pub forgotten : (free k : ℕ) → Registers → Memory → Forgets
 forgotten free k r m =
     record {
-      answer = Forgotten (registersHolding (r .used - free) (r .kept - k) r);
+      answer = Forgotten (registersHolding (r .h) (r .used - free) (r .kept - k) r);
       memory = record { cells = m .cells; history = movedDown free (r .used) (m .history); output = m .output };
     }
 

@@ -40,25 +40,24 @@ module _ (l : List ℕ) (h : length l ≡ registerCount) (instead : Moved) where
   reset-called {bits = bits} {tags = tags} {history = history} {output = output} es el ek =
       (λ i. moved (ek i) (el i) (memory bits tags history output)) ∙ ap resetMoved es ∙ sym (of-length registerCount l _ _ h)
 
+  -- a call f on a machine, of whose outcome g makes what is given and left
+  moved-called : {A : Type 0} (g : Registers → A → Moved) (f : Registers → A) {r : Registers} {a : A} → r ≡ registersOf l → a ≡ f r
+      → g r a ≡ ofLength registerCount l (g (registersOf l) (f (registersOf l))) instead
+  moved-called g f {r = r} er ea = ap (g r) ea ∙ ap (λ (q : Registers). g q (f q)) er ∙ sym (of-length registerCount l _ _ h)
+
   -- a step or a step-back f, which answers a
   pub step-called : (f : Registers → Stepped) {k : ℕ} {r next : Registers} {a : Step} {registers bits tags history output : List ℕ} → r ≡ registersOf l
       → stepped a bits tags history output ≡ f r → next ≡ registersAfter r a → registers ≡ listOf next → k ≡ numberOfStep a
       → moved k registers (memory bits tags history output) ≡ ofLength registerCount l (stepMoved (registersOf l) (f (registersOf l))) instead
-  step-called f {r = r} {bits = bits} {tags = tags} {history = history} {output = output} er es en el ek =
-      (λ i. moved (ek i) ((el ∙ ap listOf en) i) (memory bits tags history output))
-      ∙ ap (stepMoved r) es
-      ∙ ap (λ (q : Registers). stepMoved q (f q)) er
-      ∙ sym (of-length registerCount l _ _ h)
+  step-called f {bits = bits} {tags = tags} {history = history} {output = output} er es en el ek =
+      (λ i. moved (ek i) ((el ∙ ap listOf en) i) (memory bits tags history output)) ∙ moved-called stepMoved f er es
 
   -- a forget f, which answers a
   pub forget-called : (f : Registers → Forgets) {k : ℕ} {r next : Registers} {a : Forgot} {registers bits tags history output : List ℕ} → r ≡ registersOf l
       → forgot a bits tags history output ≡ f r → next ≡ registersForgot r a → registers ≡ listOf next → k ≡ numberOfForgot a
       → moved k registers (memory bits tags history output) ≡ ofLength registerCount l (forgetMoved (registersOf l) (f (registersOf l))) instead
-  forget-called f {r = r} {bits = bits} {tags = tags} {history = history} {output = output} er es en el ek =
-      (λ i. moved (ek i) ((el ∙ ap listOf en) i) (memory bits tags history output))
-      ∙ ap (forgetMoved r) es
-      ∙ ap (λ (q : Registers). forgetMoved q (f q)) er
-      ∙ sym (of-length registerCount l _ _ h)
+  forget-called f {bits = bits} {tags = tags} {history = history} {output = output} er es en el ek =
+      (λ i. moved (ek i) ((el ∙ ap listOf en) i) (memory bits tags history output)) ∙ moved-called forgetMoved f er es
 
 -- a run f, which answers a and leaves m
 module _ (t : List ℕ) (ht : length t ≡ 1) (l : List ℕ) (h : length l ≡ registerCount) (other instead : Walked) where
