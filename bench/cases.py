@@ -763,7 +763,7 @@ def fill_corners(script):
         series_run(lent, RUN_LIMIT, counts)
         for times in range(1, forgets.FILLS + 1):
             kept = lent.state.registers.kept
-            number = forget_and_fill(script, lent, word, [1, kept // 2, kept][times % 3], counts)
+            number = forget_and_fill(script, lent, word, [1, max(kept // 2, 1), kept][times % 3], counts)
             script.fills[source, h, times, number] += 1
         if h < HISTORY_LIMIT:
             take_all_back(script, lent, counts.forgotten)

@@ -21,7 +21,7 @@ use Rattle.lent.proofs.Parts.{part-cleared}
 use Rattle.state.specs.Held.{Held}
 use Rattle.state.specs.Outcomes.{stepped}
 use Rattle.rules.proofs.Records.{old-pc-below, cells-within, addresses-below}
-use Rattle.back.specs.Undoable.{placesOf, Undoable}
+use Rattle.back.specs.Undoable.{recordCells, Undoable}
 
 -- the zeros of a record of x cells, the last of u places used
 pub zeroed : (u x : ℕ) (h ys : List ℕ) → x < u → u ≤ length h → ys ≡ replicate (length (part (u - 1 - x) (u - (u - 1 - x)) h)) 0
@@ -37,7 +37,7 @@ module _ (r : Registers) (m : Memory) (top x : ℕ) (ex : x ≡ stepCount top) (
   abbrev pub cells-lent : List ℕ
   cells-lent = take (r .used - 1 - (r .used - 1 - x)) (drop (r .used - 1 - x) (m .history))
 
-  pub lent-is : cells-lent ≡ placesOf top r m
+  pub lent-is : cells-lent ≡ recordCells top r m
   lent-is =
       let e : r .used - 1 - (r .used - 1 - x) ≡ x = omega (arith, within) in
       ap (λ (k : ℕ). take k (drop (r .used - 1 - x) (m .history))) e ∙ ap (λ (k : ℕ). part (r .used - 1 - k) k (m .history)) ex

@@ -11,8 +11,8 @@ use Rattle.rules.specs.State.{Memory}
 use Rattle.rules.specs.declared.Registers.{Registers}
 
 -- its cell places
-abbrev pub placesOf : ℕ → Registers → Memory → List ℕ
-placesOf top r m = part (r .used - 1 - stepCount top) (stepCount top) (m .history)
+abbrev pub recordCells : ℕ → Registers → Memory → List ℕ
+recordCells top r m = part (r .used - 1 - stepCount top) (stepCount top) (m .history)
 
 -- there is a tag for each cell, a step is kept, the record lies within the places used and these within the history, its addresses are those of cells, and
 -- what it showed is among the bytes written and these within the output
@@ -21,6 +21,6 @@ pub record Undoable (top : ℕ) (shows : Bool) (r : Registers) (m : Memory) : Ty
   pub kept : 0 < r .kept
   pub count : stepCount top < r .used
   pub used : r .used ≤ length (m .history)
-  pub addresses : (k : ℕ) → k < length (placesOf top r m) → cellAddress (getD (placesOf top r m) k 0) < length (m .cells .bits)
+  pub addresses : (k : ℕ) → k < length (recordCells top r m) → cellAddress (getD (recordCells top r m) k 0) < length (m .cells .bits)
   pub drops : (not shows || ltb 0 (r .written)) ≡ true
   pub written : r .written ≤ length (m .output)

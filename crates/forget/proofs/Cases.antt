@@ -17,7 +17,7 @@ use Rattle.rules.specs.declared.ForgetRefusal.the-variants.{RecordsBroken, TooM
 use Rattle.rules.specs.declared.Forgot.the-variants.{Forgotten}
 use Rattle.rules.proofs.Forgetting.{forget-broken, forget-too-many, forget-done, MovedTo, moved-all}
 use Rattle.lent.proofs.Parts.{part-cleared}
-use Rattle.records.specs.Walks.{walked}
+use Rattle.records.specs.Walks.{walkDown}
 use Rattle.records.specs.declared.Walk.{Walk}
 use Rattle.records.proofs.Walks.{told-formed, told-records, told-below, told-within}
 use Rattle.forget.specs.Outcomes.{forgot}
@@ -39,7 +39,7 @@ module _ (p : Program) (k : ℕ) (r : Registers) (m : Memory) where
   forget-unsound h = forget-broken p k r m 0 h
 
   -- `stay` steps stay, and the walk found w
-  module _ (stay : ℕ) (left : stay ≡ r .kept - k) (w : Walk) (e : w ≡ walked (r .n) (p .count) stay (r .used) (m .history)) where
+  module _ (stay : ℕ) (left : stay ≡ r .kept - k) (w : Walk) (e : w ≡ walkDown (r .n) (p .count) stay (r .used) (m .history)) where
     pub forget-unformed : w .formed ≡ false → forget p k r m ≡ notForgotten m RecordsBroken
     forget-unformed h = forget-broken p k r m 1 (sym (told-formed (r .n) (p .count) stay (r .used) (m .history) w e) ∙ h)
 

@@ -24,11 +24,13 @@ use Rattle.rules.proofs.Fair.{Sound}
 use Rattle.rules.proofs.FairEffects.{sound-facts}
 use Rattle.rules.proofs.Records.{AllFormed, CutTo, steps-cut}
 use Rattle.promises.specs.Unbounded.{Unbounded}
-use Rattle.promises.specs.Series.{Request, State, Session, stateOf, series, begin, Origin, ahead, remembered, Promised}
+use Rattle.promises.specs.Series.{Request, State, plain, Session, stateOf, series, begin, Origin, ahead, remembered, freshRun, Promised}
+use Rattle.promises.specs.Agrees.{Alike}
+use Rattle.promises.proofs.Agrees.{agrees}
 use Rattle.promises.proofs.Demand3Good.{Good}
 use Rattle.promises.proofs.Demand3Held.{held, cuts, forget-held, forget-many}
 use Rattle.promises.proofs.Demand3Reset.{Begins, origin-begins}
-use Rattle.promises.proofs.Demand3Kept.{reached, no-more-kept, Kept, records-reached, formed-held, good-reached, good-kept, BackOn, nothing, one, back-on, length-held, kept-series}
+use Rattle.promises.proofs.Demand3Kept.{reached, no-more-kept, Kept, run-reached, records-reached, formed-held, good-reached, good-kept, BackOn, nothing, one, back-on, length-held, kept-series}
 
 no-elements : (l : List ℕ) → length l ≡ 0 → l ≡ []
 no-elements [] e = refl
@@ -126,6 +128,22 @@ module _ (p : Program) (o : State) (x₀ : Unbounded) (begins : Begins p o x₀)
       (forget-many p room (begins .short) ls x held-good held-formed (w .holds .fits) k b)
       ∙ ap (λ (c : Bool). cond c 0 (forgetNumber TooManySteps)) (sym b)
 
+  -- the run's state is that of a machine in a good state, and the session shows it
+  abbrev run-so-far : Unbounded
+  run-so-far = freshRun p x₀ s
+
+  run-good : Good p (plain run-so-far)
+  run-good = subst (λ (k : ℕ). Good p (plain (reached p o x₀ begins k))) far-is (run-reached p o x₀ begins (w .far) (w .makes) .good)
+
+  alike : Alike run-so-far (stateOf s)
+  alike =
+      record {
+        registers =
+            ap (λ (t : State). others (t .registers)) (w .holds .at) ∙ ap (λ (k : ℕ). others (reached p o x₀ begins k .registers)) far-is;
+        cells = ap (λ (t : State). t .memory .cells) (w .holds .at) ∙ ap (λ (k : ℕ). reached p o x₀ begins k .cells) far-is;
+        output = ap (λ (t : State). t .memory .output) (w .holds .at) ∙ ap (λ (k : ℕ). reached p o x₀ begins k .output) far-is;
+      }
+
   pub promised : Promised p o x₀ s
   promised =
       let good : Good p (stateOf s) = good-kept p o x₀ begins s w in
@@ -133,10 +151,9 @@ module _ (p : Program) (o : State) (x₀ : Unbounded) (begins : Begins p o x₀)
       record {
         within = omega (arith, w .count, no-more-kept (s .forgotten) (ltb 0 room) (w .few) (w .far) (w .kept));
         steps = subst (λ (k : ℕ). length (reached p o x₀ begins k .records) ≡ k) far-is (records-reached p o x₀ begins (w .far) (w .makes));
-        cells = ap (λ (t : State). t .memory .cells) (w .holds .at) ∙ ap (λ (k : ℕ). reached p o x₀ begins k .cells) far-is;
-        registers =
-            ap (λ (t : State). others (t .registers)) (w .holds .at) ∙ ap (λ (k : ℕ). others (reached p o x₀ begins k .registers)) far-is;
-        output = ap (λ (t : State). t .memory .output) (w .holds .at) ∙ ap (λ (k : ℕ). reached p o x₀ begins k .output) far-is;
+        cells = alike .cells;
+        registers = alike .registers;
+        output = alike .output;
         h = room-is;
         history =
             λ some.
@@ -150,11 +167,13 @@ module _ (p : Program) (o : State) (x₀ : Unbounded) (begins : Begins p o x₀)
             ap (λ (t : State). map wholeRecord (recordsInUse (t .registers) (t .memory))) (w .holds .at) ∙ found .same
             ∙ ap₂ (λ (n k : ℕ). take n (reached p o x₀ begins k .records)) (sym kept-few) far-is;
         refused = refused-when (back-on p o x₀ begins s w);
+        next = agrees p run-so-far (stateOf s) (good .sound) alike .steps;
         forgets =
             λ k.
             subst (λ (t : State). numberOfForgot (Forget.forget p k (t .registers) (t .memory) .answer) ≡ cond (leb k (t .registers .kept)) 0 (forgetNumber TooManySteps))
             (sym (w .holds .at)) (forgets-when k (leb k (length ls)) refl);
         sound = good .sound;
+        run-sound = run-good .sound;
       }
 
 -- two sessions of one origin that are as far, and have forgotten as much, stand in the same state

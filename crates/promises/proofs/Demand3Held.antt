@@ -33,9 +33,9 @@ use Rattle.rules.proofs.Inverse.{inverse}
 use Rattle.rules.proofs.Room.{judged-others}
 use Rattle.rules.proofs.Records.{AllFormed, fewer-than-places, places-split, more-places, fewer-places, CutTo, cut-places}
 use Rattle.promises.specs.Unbounded.{Unbounded, moves, decided}
-use Rattle.promises.specs.Series.{State}
+use Rattle.promises.specs.Series.{State, plain}
 use Rattle.promises.proofs.Demand3Good.{Good, committed, back-empty}
-use Rattle.promises.proofs.Demand3Run.{plain, made-fair}
+use Rattle.promises.proofs.Demand3Run.{made-fair}
 
 -- the registers, the cells and the output of x, with h places, of which the first hold these records, and the others zeros
 abbrev pub held : ℕ → List (List ℕ) → Unbounded → State

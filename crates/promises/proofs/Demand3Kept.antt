@@ -28,10 +28,10 @@ use Rattle.rules.proofs.Runs.{run-long}
 use Rattle.rules.proofs.Room.{judged-room, room-does}
 use Rattle.rules.proofs.Records.{AllFormed, formed-take, places-split}
 use Rattle.promises.specs.Unbounded.{Unbounded, moves, decided, moved}
-use Rattle.promises.specs.Series.{Request, step, run, back, forget, State, Session, stateOf, stepped, backed, ran, forgot, ask, series, begin}
+use Rattle.promises.specs.Series.{Request, step, run, back, forget, State, plain, Session, stateOf, stepped, backed, ran, forgot, ask, series, begin}
 use Rattle.promises.proofs.Runs.{run-within}
 use Rattle.promises.proofs.Demand3Good.{Good, committed, step-good}
-use Rattle.promises.proofs.Demand3Run.{plain, Makes, Run, run-made, records-made}
+use Rattle.promises.proofs.Demand3Run.{Makes, Run, run-made, records-made}
 use Rattle.promises.proofs.Demand3Held.{held, added, good-held, fits-added, commit-held, back-held, back-nothing, forget-held, forget-many}
 use Rattle.promises.proofs.Demand3Reset.{Begins}
 

@@ -24,9 +24,8 @@ use Rattle.rules.proofs.FairEffects.{fair-plain}
 use Rattle.rules.proofs.Sound.{facts-sound}
 use Rattle.rules.proofs.Zeros.{zeros-at}
 use Rattle.promises.specs.Unbounded.{Unbounded, unmoved}
-use Rattle.promises.specs.Series.{State, left, SameSizes, Origin, reset as byReset}
+use Rattle.promises.specs.Series.{State, plain, left, SameSizes, Origin, reset as byReset}
 use Rattle.promises.proofs.Demand3Good.{Good}
-use Rattle.promises.proofs.Demand3Run.{plain}
 use Rattle.promises.proofs.Demand3Held.{held}
 
 -- ---- a reset that is accepted

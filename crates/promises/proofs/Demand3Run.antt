@@ -6,7 +6,6 @@ use mathlib.Core.List.{[]}
 use native.Mathlib.Omega.{arith}
 use lib.ListN.{length}
 use Rattle.rules.specs.Table.{Program}
-use Rattle.rules.specs.State.{others}
 use Rattle.rules.specs.declared.Effect.{Effect}
 use Rattle.rules.specs.declared.Decision.{Decision}
 use Rattle.rules.specs.declared.Decision.the-variants.{Does, Refuses}
@@ -15,12 +14,8 @@ use Rattle.rules.proofs.FairEffects.{sound-facts, judged-going, going-below, fa
 use Rattle.rules.proofs.Formed.{record-formed}
 use Rattle.rules.proofs.Records.{AllFormed}
 use Rattle.promises.specs.Unbounded.{Unbounded, moves, decided, moved}
-use Rattle.promises.specs.Series.{State}
+use Rattle.promises.specs.Series.{plain}
 use Rattle.promises.proofs.Demand3Good.{Good, good-committed}
-
--- the same machine, with no history
-abbrev pub plain : Unbounded → State
-plain x = record { registers = others (x .registers); memory = record { cells = x .cells; history = []; output = x .output } }
 
 -- each of the first k steps is accepted
 abbrev pub Makes : Program → Unbounded → ℕ → Type 0

@@ -1,23 +1,21 @@
 -- Request f: the door board reads what the fresh run of S minus B steps would have left, and a trial that is taken back leaves what it reads alone, also where
 -- forgets came before it; what it reads lies between 10 and 300 tenths. Assumes nothing.
-use Prim.Native.Nat.{ℕ, _-_}
+use Prim.Native.Nat.{ℕ}
 use mathlib.Core.Path.{_≡_, sym, ap, _∙_, subst}
-use mathlib.Core.Bool.{true}
 use mathlib.Core.List.{List, _++_}
 use native.Mathlib.Omega.{arith}
 use Rattle.rules.specs.Table.{Program}
-use Rattle.rules.specs.State.{Memory, sound}
+use Rattle.rules.specs.State.{Memory}
 use Rattle.rules.specs.Dwell.{dwell}
 use Rattle.rules.specs.declared.Registers.{Registers}
 use Rattle.rules.proofs.Dwells.{dwell-either, dwell-others}
 use Rattle.promises.specs.Unbounded.{Unbounded, moved}
-use Rattle.promises.specs.Series.{Request, State, Session, stateOf, series, begin, Origin, ahead, freshRun, Promised}
-use Rattle.promises.specs.Dwells.{Held, readIn, readOff, ReadAfresh, Even, TakenBack, LeftAlone}
+use Rattle.promises.specs.Series.{Request, State, plain, Session, stateOf, series, begin, Origin, ahead, freshRun, Promised}
+use Rattle.promises.specs.Dwells.{Held, readOff, ReadAfresh, Even, ReadAlike, TakenBack, LeftAlone}
 use Rattle.promises.proofs.Counts.{series-from, series-then}
-use Rattle.promises.proofs.Demand3Run.{plain}
 use Rattle.promises.proofs.Demand3Reset.{Begins, origin-begins}
-use Rattle.promises.proofs.Demand3Kept.{reached, Kept, run-reached, kept-series}
-use Rattle.promises.proofs.Demand3.{far-is, promised, same-held}
+use Rattle.promises.proofs.Demand3Kept.{Kept, kept-series}
+use Rattle.promises.proofs.Demand3.{same-held, demand3}
 
 -- ---- the ends
 
@@ -34,17 +32,12 @@ module _ (p : Program) (o : State) (x : Unbounded) (origin : Origin p o x) where
   pub dwell-afresh : (qs : List Request) → ReadAfresh p x (series p qs (begin o))
   dwell-afresh qs =
       let s : Session = series p qs (begin o) in
-      let w : Kept p o x begins s = kept-series p o x begins qs in
-      let v : Promised p o x s = promised p o x begins s w in
+      let v : Promised p o x s = demand3 p o x origin qs in
       let y : Unbounded = freshRun p x s in
-      let good : sound p (plain y .registers) (plain y .memory) ≡ true =
-      subst (λ (k : ℕ). sound p (plain (reached p o x begins k) .registers) (plain (reached p o x begins k) .memory) ≡ true) (far-is p o x begins s w)
-      (run-reached p o x begins (w .far) (w .makes) .good .sound) in
-      dwell-others p (s .registers) (s .memory) (plain y .registers) (plain y .memory) (v .sound) good (v .registers) (v .cells)
+      dwell-others p (s .registers) (s .memory) (plain y .registers) (plain y .memory) (v .sound) (v .run-sound) (v .registers) (v .cells)
 
   -- (2) what is read is left alone by whatever takes back as many steps as it makes, forgets among it
-  pub dwell-taken-back : (before trial : List Request) → Even p (series p before (begin o)) trial
-      → readIn p (series p trial (series p before (begin o))) ≡ readIn p (series p before (begin o))
+  pub dwell-taken-back : (before trial : List Request) → Even p (series p before (begin o)) trial → ReadAlike p (series p before (begin o)) trial
   dwell-taken-back before trial even =
       let s : Session = series p before (begin o) in
       let t : Session = series p trial s in

@@ -7,8 +7,9 @@ pub mod Demand3Run
 pub mod Demand3Held
 pub mod Demand3Reset
 pub mod Demand3Kept
-pub mod Demand3
 pub mod Agrees
+pub mod Demand3
+pub mod KeepsUp
 pub mod Whole
 pub mod ListingRound
 pub mod Listing

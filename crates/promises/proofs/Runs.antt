@@ -54,7 +54,7 @@ none-undone p zero s = refl
 none-undone p (suc k) s = none-undone p k (ask p s step)
 
 -- and forget none
-none-forgotten : (p : Program) (k : ℕ) (s : Session) → series p (replicate k step) s .forgotten ≡ s .forgotten
+pub none-forgotten : (p : Program) (k : ℕ) (s : Session) → series p (replicate k step) s .forgotten ≡ s .forgotten
 none-forgotten p zero s = refl
 none-forgotten p (suc k) s = none-forgotten p k (ask p s step)
 

@@ -42,9 +42,10 @@ use Rattle.promises.proofs.Image.{image-unpacks}
 
 use Rattle.promises.proofs.Demand3.{demand3}
 -- "Demand 3's fresh run is now made with room for all its records": it does what a step does wherever there is room, and a machine with that room keeps up with it
-use Rattle.promises.proofs.Agrees.{agrees, keeps-up}
+use Rattle.promises.proofs.Agrees.{agrees}
+use Rattle.promises.proofs.KeepsUp.{keeps-up}
 -- where nothing is forgotten: "registers, cells, tags and history equal those of a fresh reset of the same sizes followed by S minus B steps under demand 2."
-use Rattle.promises.proofs.Whole.{demand3-whole, demand3-before}
+use Rattle.promises.proofs.Whole.{demand3-whole, demand3-fresh}
 -- "a fresh reset of the same sizes": resets of memories of the same sizes leave the same; and the premise is met by every sound table and all sizes within "Sizes"
 use Rattle.promises.proofs.Demand3Reset.{reset-sized, reset-ready}
 -- "Step-back restores them, sets HALT 0 and zeroes the freed places": it undoes the step before it

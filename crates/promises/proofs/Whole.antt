@@ -1,12 +1,12 @@
--- Demand 3 as it was before request i: where nothing is forgotten, everything equals a fresh reset of the same sizes and S minus B steps of the machine itself. It
--- follows from what a session keeps: all the records of the fresh run are held, so each of its steps had room. Assumes nothing.
+-- Demand 3 where nothing is forgotten: everything equals a fresh reset of the same sizes and S minus B steps of the machine itself. It follows from what a session
+-- keeps: all the records of the fresh run are held, so each of its steps had room. Assumes nothing.
 use Prim.Native.Nat.{ℕ, _+_, _-_, _≤_}
-use mathlib.Core.Path.{_≡_, refl, sym, ap, _∙_, subst}
+use mathlib.Core.Path.{_≡_, refl, ap, _∙_, subst}
 use mathlib.Core.Bool.{Bool, true, false, _||_, cond}
 use mathlib.Core.List.{List, [], _∷_}
 use native.Mathlib.Omega.{arith}
 use lib.Dec.{ltb, eqb}
-use lib.ListN.{length, take}
+use lib.ListN.{length, take, replicate}
 use borrow.Author.Tests.{eqb-true, eqb-false, eq-eqb, ne-eqb}
 use Rattle.rules.specs.Table.{Program}
 use Rattle.rules.specs.State.{Memory}
@@ -18,38 +18,34 @@ use Rattle.rules.specs.declared.Begun.the-variants.{Ready}
 use Rattle.promises.specs.Unbounded.{Unbounded, unmoved}
 use Rattle.promises.specs.Series.{Request, step, run, back, forget, State, Session, stateOf, ask, series, begin, left, SameSizes, Origin, reset, afresh, ahead, Promised}
 use Rattle.promises.specs.Whole.{NoForgets, Whole}
-use Rattle.promises.proofs.Runs.{standing}
-use Rattle.promises.proofs.Demand3Held.{held}
+use Rattle.promises.proofs.Runs.{none-undone, none-forgotten}
 use Rattle.promises.proofs.Demand3Reset.{Begins, origin-begins, reset-sized}
 use Rattle.promises.proofs.Demand3Kept.{reached, Kept, kept-series}
-use Rattle.promises.proofs.Demand3.{far-is, promised}
-use Rattle.promises.proofs.Agrees.{steps-along}
+use Rattle.promises.proofs.Demand3.{far-is, promised, same-held}
+use Rattle.promises.proofs.KeepsUp.{steps-made}
 
 module _ (p : Program) (o : State) (x₀ : Unbounded) (begins : Begins p o x₀) where
   abbrev h : ℕ
   h = o .registers .h
 
-  -- a session that has forgotten nothing stands where so many steps lead
-  along-kept : (s : Session) (w : Kept p o x₀ begins s) → s .forgotten ≡ 0 → afresh p o (w .far) ≡ standing (w .far) (s .registers) (s .memory)
-  along-kept s w f =
+  whole-kept : (s : Session) (w : Kept p o x₀ begins s) → s .forgotten ≡ 0 → Whole p o s
+  whole-kept s w f =
+      let k : ℕ = ahead s in
+      let v : Promised p o x₀ s = promised p o x₀ begins s w in
       let few : w .few ≡ cond (ltb 0 h) (w .far) 0 = omega (arith, f) ∙ w .kept in
       let fits : length (placesOf (take (cond (ltb 0 h) (w .far) 0) (reached p o x₀ begins (w .far) .records))) ≤ h =
       subst (λ (n : ℕ). length (placesOf (take n (reached p o x₀ begins (w .far) .records))) ≤ h) few (w .holds .fits) in
-      let at : held h (take (cond (ltb 0 h) (w .far) 0) (reached p o x₀ begins (w .far) .records)) (reached p o x₀ begins (w .far)) ≡ stateOf s =
-      ap (λ (n : ℕ). held h (take n (reached p o x₀ begins (w .far) .records)) (reached p o x₀ begins (w .far))) (sym few) ∙ sym (w .holds .at) in
-      steps-along p o x₀ begins (w .far) (w .makes) fits ∙ ap (λ (t : State). standing (w .far) (t .registers) (t .memory)) at
-
-  whole-kept : (s : Session) (w : Kept p o x₀ begins s) → s .forgotten ≡ 0 → Whole p o s
-  whole-kept s w f =
-      let v : Promised p o x₀ s = promised p o x₀ begins s w in
-      let same : afresh p o (ahead s) ≡ standing (ahead s) (s .registers) (s .memory) =
-      subst (λ (n : ℕ). afresh p o n ≡ standing n (s .registers) (s .memory)) (far-is p o x₀ begins s w) (along-kept s w f) in
+      let made : afresh p o k .made ≡ k =
+      subst (λ (n : ℕ). afresh p o n .made ≡ n) (far-is p o x₀ begins s w) (steps-made p o x₀ begins (w .far) (w .makes) fits) in
+      let same : stateOf s ≡ stateOf (afresh p o k) =
+      same-held p o x₀ begins s (afresh p o k) w (kept-series p o x₀ begins (replicate k step))
+      (omega (arith, made, none-undone p k (begin o))) (omega (arith, f, none-forgotten p k (begin o))) in
       let all : ahead s - s .forgotten ≡ ahead s = omega (arith, f) in
       record {
         within = omega (arith, v .within);
-        registers = ap (λ (t : Session). t .registers) (sym same);
-        memory = ap (λ (t : Session). t .memory) (sym same);
-        steps = ap (λ (t : Session). t .made) same;
+        registers = ap (λ (t : State). t .registers) same;
+        memory = ap (λ (t : State). t .memory) same;
+        steps = made;
         refused = v .refused ∙ ap (λ (b : Bool). cond (eqb (s .registers .h) 0 || b) (machineNumber NoHistory) 0) (even (eqb (s .made) (s .undone)) refl (v .within));
         kept = v .kept ∙ ap (λ (n : ℕ). cond (ltb 0 (s .registers .h)) n 0) all;
       }
@@ -59,23 +55,23 @@ module _ (p : Program) (o : State) (x₀ : Unbounded) (begins : Begins p o x₀)
       even false z low = ne-eqb (ahead s) (s .forgotten) (λ y. eqb-false (s .made) (s .undone) z (omega (arith, y, f, low)))
 
 -- nothing is forgotten where no forget is asked for
-none-forgotten : (p : Program) (qs : List Request) (s : Session) → NoForgets qs → series p qs s .forgotten ≡ s .forgotten
-none-forgotten p [] s n = refl
-none-forgotten p (step ∷ qs) s n = none-forgotten p qs (ask p s step) n
-none-forgotten p (run limit ∷ qs) s n = none-forgotten p qs (ask p s (run limit)) n
-none-forgotten p (back ∷ qs) s n = none-forgotten p qs (ask p s back) n
-none-forgotten p (forget k ∷ qs) s n = absurd n
+unforgotten : (p : Program) (qs : List Request) (s : Session) → NoForgets qs → series p qs s .forgotten ≡ s .forgotten
+unforgotten p [] s n = refl
+unforgotten p (step ∷ qs) s n = unforgotten p qs (ask p s step) n
+unforgotten p (run limit ∷ qs) s n = unforgotten p qs (ask p s (run limit)) n
+unforgotten p (back ∷ qs) s n = unforgotten p qs (ask p s back) n
+unforgotten p (forget k ∷ qs) s n = absurd n
 
 -- beside the steps from the same origin
 pub demand3-whole : (p : Program) (o : State) (x : Unbounded) → Origin p o x → (qs : List Request) → NoForgets qs → Whole p o (series p qs (begin o))
 demand3-whole p o x origin qs n =
     let begins : Begins p o x = origin-begins p o x origin in
-    whole-kept p o x begins (series p qs (begin o)) (kept-series p o x begins qs) (none-forgotten p qs (begin o) n)
+    whole-kept p o x begins (series p qs (begin o)) (kept-series p o x begins qs) (unforgotten p qs (begin o) n)
 
 -- beside a fresh reset of the same sizes
-pub demand3-before : (p : Program) (m m′ : Memory) → Reset.reset p m .answer .begun ≡ Ready → SameSizes m m′ → length (m .history) ≡ length (m′ .history)
+pub demand3-fresh : (p : Program) (m m′ : Memory) → Reset.reset p m .answer .begun ≡ Ready → SameSizes m m′ → length (m .history) ≡ length (m′ .history)
     → (qs : List Request) → NoForgets qs → Whole p (left (Reset.reset p m′)) (series p qs (begin (left (Reset.reset p m))))
-demand3-before p m m′ ready same history qs n =
+demand3-fresh p m m′ ready same history qs n =
     let x : Unbounded = unmoved (Reset.reset p m .answer .registers) (Reset.reset p m .memory) in
     let origin : Origin p (left (Reset.reset p m)) x =
     reset m m ready ready (record { bits = refl; tags = refl; output = refl }) refl refl in

@@ -1,7 +1,8 @@
--- Request i: the fresh run, whose room no refusal judges, does what `step` does wherever a history has room. proofs/Agrees.antt shows it. Assumes nothing.
+-- Request i: the fresh run, whose room no refusal judges, does what `step` does wherever a history has room. proofs/Agrees.antt and
+-- proofs/KeepsUp.antt show it. Assumes nothing.
 use Prim.Native.Nat.{ℕ, _≤_, _<_}
 use mathlib.Core.Path.{_≡_}
-use lib.ListN.{length}
+use lib.ListN.{length, take}
 use Rattle.rules.specs.Table.{Program}
 use Rattle.rules.specs.State.{others}
 use Rattle.rules.specs.Commit.{recordOf, registersOf, memoryOf}
@@ -12,10 +13,10 @@ use Rattle.rules.specs.declared.Effect.{Effect}
 use Rattle.rules.specs.declared.Decision.the-variants.{Does, Refuses}
 use Rattle.rules.specs.declared.MachineRefusal.the-variants.{HistoryFull}
 use Rattle.promises.specs.Unbounded.{Unbounded, moves, decided, moved}
-use Rattle.promises.specs.Series.{State, afresh}
+use Rattle.promises.specs.Series.{State, stateOf, afresh}
 
 -- a machine in whose state "Cells, tags, registers other than H, U and the kept number, and output equal that run's"
-pub record Shows (x : Unbounded) (s : State) : Type 0 where
+pub record Alike (x : Unbounded) (s : State) : Type 0 where
   pub registers : others (s .registers) ≡ others (x .registers)
   pub cells : s .memory .cells ≡ x .cells
   pub output : s .memory .output ≡ x .output
@@ -28,10 +29,16 @@ pub record Agrees (p : Program) (x : Unbounded) (s : State) : Type 0 where
   pub never : decided p x ≡ Refuses HistoryFull → ⊥
   -- what is done keeps the same record, and leaves the same again
   pub keeps : (e : Effect) → recordOf (s .registers) (s .memory .cells) e ≡ recordOf (x .registers) (x .cells) e
-  pub shows : (e : Effect)
-      → Shows (moves x (Does e)) (record { registers = registersOf (s .registers) e; memory = memoryOf (s .registers) (s .memory) e })
+  pub leaves : (e : Effect)
+      → Alike (moves x (Does e)) (record { registers = registersOf (s .registers) e; memory = memoryOf (s .registers) (s .memory) e })
 
--- k steps of the run, each of them made, are k accepted steps of a machine that begins alike, where its history has room for all their records, or it has none
-abbrev pub KeepsUp : Program → State → Unbounded → ℕ → Type 0
-KeepsUp p o x k =
-    length (moved p k x .records) ≡ k → (0 < o .registers .h → length (placesOf (moved p k x .records)) ≤ o .registers .h) → afresh p o k .made ≡ k
+-- the run y makes k steps, and there is room for all their records, or no history
+pub record Fitting (o : State) (y : Unbounded) (k : ℕ) : Type 0 where
+  pub made : length (y .records) ≡ k
+  pub room : 0 < o .registers .h → length (placesOf (y .records)) ≤ o .registers .h
+
+-- k steps of the machine that begins alike: each is accepted, and they leave what the run leaves, with all its records where there is a history
+pub record KeepsUp (p : Program) (o : State) (x : Unbounded) (k : ℕ) : Type 0 where
+  pub made : afresh p o k .made ≡ k
+  pub alike : Alike (moved p k x) (stateOf (afresh p o k))
+  pub history : 0 < o .registers .h → take (afresh p o k .registers .used) (afresh p o k .memory .history) ≡ placesOf (moved p k x .records)

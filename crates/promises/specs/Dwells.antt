@@ -2,17 +2,16 @@
 -- dwell lies, and that what was tried and taken back leaves it alone. proofs/Tenths.antt and proofs/Dwells.antt show it. Assumes nothing.
 use Prim.Native.Nat.{ℕ, _≤_}
 use mathlib.Core.Path.{_≡_}
-use mathlib.Core.List.{List, []}
+use mathlib.Core.List.{List}
 use lib.IntN.{ℤ, pos, _*ℤ_}
 use lib.Signed.{_≤ℤ_}
 use Rattle.rules.specs.Exact.{scale, exact}
 use Rattle.rules.specs.Table.{Program}
-use Rattle.rules.specs.State.{others}
 use Rattle.rules.specs.Dwell.{dwell}
 use Rattle.rules.specs.declared.Dwell.{Dwell}
 use Rattle.rules.specs.declared.Dwell.the-variants.{Tenths, Unread}
 use Rattle.promises.specs.Unbounded.{Unbounded}
-use Rattle.promises.specs.Series.{Request, Session, series, fromHere, freshRun}
+use Rattle.promises.specs.Series.{Request, Session, plain, series, fromHere, freshRun}
 
 -- ---- the tenths
 
@@ -34,7 +33,7 @@ readIn p s = dwell p (s .registers) (s .memory)
 
 -- of a machine of no history, as the fresh run leaves it
 abbrev pub readOff : Program → Unbounded → Dwell
-readOff p x = dwell p (others (x .registers)) (record { cells = x .cells; history = []; output = x .output })
+readOff p x = dwell p (plain x .registers) (plain x .memory)
 
 -- the dwell, or its refusal, is the one read after the fresh run of S minus B steps
 abbrev pub ReadAfresh : Program → Unbounded → Session → Type 0
@@ -44,7 +43,11 @@ ReadAfresh p x s = readIn p s ≡ readOff p (freshRun p x s)
 abbrev pub Even : Program → Session → List Request → Type 0
 Even p s trial = series p trial (fromHere s) .made ≡ series p trial (fromHere s) .undone
 
--- and nothing is forgotten
+-- after the trial what is read, tenths or a refusal, is what was read before it
+abbrev pub ReadAlike : Program → Session → List Request → Type 0
+ReadAlike p s trial = readIn p (series p trial s) ≡ readIn p s
+
+-- the same, and nothing is forgotten
 abbrev pub TakenBack : Program → Session → List Request → Type 0
 TakenBack p s trial = Even p s trial × (series p trial (fromHere s) .forgotten ≡ 0)
 
@@ -52,4 +55,4 @@ TakenBack p s trial = Even p s trial × (series p trial (fromHere s) .forgotten 
 pub record LeftAlone (p : Program) (s : Session) (trial : List Request) : Type 0 where
   pub registers : series p trial s .registers ≡ s .registers
   pub memory : series p trial s .memory ≡ s .memory
-  pub dwell : readIn p (series p trial s) ≡ readIn p s
+  pub dwell : ReadAlike p s trial

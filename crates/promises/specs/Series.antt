@@ -13,7 +13,7 @@ use Rattle.rules.specs.Table.{Program}
 use Rattle.rules.specs.State.{Memory, stepsInUse, others, sound}
 use Rattle.rules.specs.Numbers.{machineNumber, forgetNumber, numberOfStep, registersAfter, numberOfForgot, registersForgot}
 use Rattle.rules.specs.Records.{recordsInUse, wholeRecord, placesOf}
-use Rattle.rules.specs.Step.{Stepped}
+use Rattle.rules.specs.Step.{Stepped, inHistory, carried}
 use Rattle.rules.specs.Step as Step
 use Rattle.rules.specs.Back as Back
 use Rattle.rules.specs.Run as Run
@@ -27,7 +27,7 @@ use Rattle.rules.specs.declared.Step.{Step}
 use Rattle.rules.specs.declared.Step.the-variants.{Next, Refused}
 use Rattle.rules.specs.declared.Forgot.{Forgot}
 use Rattle.rules.specs.declared.Forgot.the-variants.{Forgotten, NotForgotten}
-use Rattle.promises.specs.Unbounded.{Unbounded, unmoved, moved}
+use Rattle.promises.specs.Unbounded.{Unbounded, unmoved, decided, moved}
 
 -- ---- a series
 
@@ -42,6 +42,10 @@ pub data Request : Type 0 where
 pub record State : Type 0 where
   pub registers : Registers
   pub memory : Memory
+
+-- of a run that keeps its records in a list of their own: the same machine, with no history
+abbrev pub plain : Unbounded → State
+plain x = record { registers = others (x .registers); memory = record { cells = x .cells; history = []; output = x .output } }
 
 -- where a series stands, with S, the steps accepted, B, the step-backs accepted, and F, "the sum of the k of those accepted"
 pub record Session : Type 0 where
@@ -185,10 +189,15 @@ pub record Promised (p : Program) (o : State) (x : Unbounded) (s : Session) : Ty
   -- "step-back is now refused exactly when S minus B equals F (or H = 0)": with 9; else it is done, with 0
   pub refused : numberOfStep (Back.back p (s .registers) (s .memory) .answer)
       ≡ cond (eqb (s .registers .h) 0 || eqb (ahead s) (s .forgotten)) (machineNumber NoHistory) 0
+  -- "the room gained, which later steps use": the next step is what that run does next, where H less U places are enough for its record or there is no history; else
+  -- it is 8
+  pub next : Step.step p (s .registers) (s .memory)
+      ≡ carried (s .registers) (s .memory) (inHistory (s .registers) (decided p (freshRun p x s)))
   -- a forget is refused exactly "when k is above the kept number", with 14; else it is done, with 0
   pub forgets : (k : ℕ) → numberOfForgot (Forget.forget p k (s .registers) (s .memory) .answer)
       ≡ cond (leb k (s .registers .kept)) 0 (forgetNumber TooManySteps)
-  -- no such state is broken
+  -- no state of that run is broken, and so none of the session is
+  pub run-sound : sound p (plain (freshRun p x s) .registers) (plain (freshRun p x s) .memory) ≡ true
   pub sound : sound p (s .registers) (s .memory) ≡ true
 
 -- request g: "How many steps can I take back?" Of so many step-backs one after the other, the kept number is accepted, or all of them where they are fewer

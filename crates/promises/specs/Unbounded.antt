@@ -35,7 +35,8 @@ moves x (Does e) =
     }
 moves x (Refuses y) = x
 
--- what is decided: "1 to 8 in order", with 12 (02 h), of a machine whose H is 0, so that 8, "H above 0 and fewer than .. places free", is never given
+-- what is decided: "1 to 8 in order", with 12 (02 h), of a machine whose H is 0, so that 8, "H above 0 and fewer than .. places free", is never given. 10 is not
+-- asked: in a state that a series reaches it is not given (specs/Series.antt)
 abbrev pub decided : Program → Unbounded → Decision
 decided p x = judged p (others (x .registers)) (x .cells) (length (x .output))
 

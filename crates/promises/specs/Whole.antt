@@ -1,6 +1,6 @@
--- Demand 3 as it was before request i, and still is where nothing is forgotten: "registers, cells, tags and history equal those of a fresh reset of the same sizes
--- followed by S minus B steps under demand 2". proofs/Whole.antt shows it. Assumes nothing.
-use Prim.Native.Nat.{ℕ, _≤_}
+-- Demand 3 in its own words, for series in which nothing is forgotten: "registers, cells, tags and history equal those of a fresh reset of the same sizes followed by S
+-- minus B steps under demand 2". proofs/Whole.antt shows it. Assumes nothing.
+use Prim.Native.Nat.{_≤_}
 use mathlib.Core.Path.{_≡_}
 use mathlib.Core.Bool.{_||_, cond}
 use mathlib.Core.List.{List, [], _∷_}

@@ -1,5 +1,4 @@
--- The loop over the cell places of a record, one place more and no place left; a record in the cases in which the code judges it; and what a well-formed one
--- tells of its PC, its count of cells and their addresses. Assumes nothing.
+-- The loop over the cell places of a record, one place more and no place left; and a record in the cases in which the code judges it. Assumes nothing.
 use Prim.Native.Nat.{ℕ, _+_, _-_, _≤_, _<_}
 use mathlib.Core.Path.{_≡_, refl, sym, ap, _∙_}
 use mathlib.Core.Bool.{Bool, true, false, _&&_, false≢true}
@@ -7,12 +6,12 @@ use mathlib.Core.List.{List}
 use native.Mathlib.Omega.{arith}
 use lib.ListN.{length, getD, take, drop, drop-of-length-le, List·getD-eq-default}
 use lib.Dec.{eqb}
-use borrow.Author.Tests.{leb-true}
 use Rattle.rules.specs.Lists.{part}
 use Rattle.rules.specs.Places.{cellLayout, mark, cellAddress, stepCount}
 use Rattle.rules.specs.Records.{recordAt, formedCell, formedCells, stepTests, formedStep, formedRecord}
 use Rattle.rules.proofs.Places.{field-is}
-use Rattle.rules.proofs.Tests.{and-then, every-at, every-false, drop-next}
+use Rattle.rules.proofs.Tests.{and-then, every-false, drop-next}
+use Rattle.rules.proofs.Records.{count-within}
 
 -- ---- well-formed cell places
 
@@ -49,14 +48,13 @@ module _ (n count i : ℕ) (history : List ℕ) where
   record-step h = ap (λ (b : Bool). b && formedCells n count 0 (recordAt i history .cells)) h
 
   module _ (formed : formedStep n count i (getD history i 0) ≡ true) (x : ℕ) (is : x ≡ stepCount (getD history i 0)) where
-    pub count-within : x ≤ i
-    count-within =
-        let within : stepCount (getD history i 0) ≤ i = leb-true _ _ (every-at (stepTests n count i (getD history i 0)) 5 formed) in omega arith
+    pub lies-within : x ≤ i
+    lies-within = omega (arith, is, count-within n count i (getD history i 0) formed)
 
     -- the part of the history that the code lends
     pub record-cells : formedRecord n count (recordAt i history) ≡ formedCells n count 0 (take (i - (i - x)) (drop (i - x) history))
     record-cells =
-        let all : i - (i - x) ≡ x = omega (arith, count-within) in
+        let all : i - (i - x) ≡ x = omega (arith, lies-within) in
         and-then formed
         (ap (formedCells n count 0)
         (sym (ap (λ (k : ℕ). take k (drop (i - x) history)) all ∙ ap (λ (k : ℕ). part (i - k) k history) is)))

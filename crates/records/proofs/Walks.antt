@@ -12,7 +12,7 @@ use Rattle.rules.specs.Records.{HistoryRecord, recordAt, cutDown, formedRecord,
 use Rattle.rules.proofs.Tests.{by-test}
 use Rattle.rules.proofs.Records.{cells-within, taken-from, taken-fewer}
 use Rattle.rules.proofs.Forgetting.{Walked, walked-none, walked-one, walked-bad, walked-all, walked-freed}
-use Rattle.records.specs.Walks.{found, broken, walked}
+use Rattle.records.specs.Walks.{found, broken, walkDown}
 use Rattle.records.specs.declared.Walk.{Walk}
 
 module _ (n count stay used : ℕ) (history : List ℕ) where
@@ -36,8 +36,8 @@ module _ (n count stay used : ℕ) (history : List ℕ) where
     at-last : Walked n count history used (suc (left - 1)) passed
     at-last = let last : left ≡ suc (left - 1) = omega arith in subst (λ (k : ℕ). Walked n count history used k passed) last (w .far)
 
-    pub walk-broken : formedRecord n count (recordAt (left - 1) history) ≡ false → broken ≡ walked n count stay used history
-    unfolding walked
+    pub walk-broken : formedRecord n count (recordAt (left - 1) history) ≡ false → broken ≡ walkDown n count stay used history
+    unfolding walkDown
     walk-broken h =
         sym
         (ap (λ (b : Bool). cond b (found stay (cutDown 0 used history)) broken)
@@ -74,8 +74,8 @@ module _ (n count stay used : ℕ) (history : List ℕ) where
 
   -- ---- its end
   pub walk-found : (left passed below : ℕ) → Walking left passed below → left ≤ 0
-      → record { formed = true; records = passed; below = below } ≡ walked n count stay used history
-  unfolding walked
+      → record { formed = true; records = passed; below = below } ≡ walkDown n count stay used history
+  unfolding walkDown
   walk-found left passed below w none =
       let ws : List HistoryRecord = cutDown 0 used history in
       let end : left ≡ 0 = omega arith in
@@ -103,9 +103,9 @@ module _ (n count stay used : ℕ) (history : List ℕ) where
 
 -- ---- what a caller is told
 
-module _ (n count stay used : ℕ) (history : List ℕ) (w : Walk) (e : w ≡ walked n count stay used history) where
+module _ (n count stay used : ℕ) (history : List ℕ) (w : Walk) (e : w ≡ walkDown n count stay used history) where
   pub told-formed : w .formed ≡ formedRecords n count (cutDown 0 used history)
-  unfolding walked
+  unfolding walkDown
   told-formed = ap (λ (a : Walk). a .formed) e ∙ which (formedRecords n count (cutDown 0 used history))
     where
       which : (b : Bool) → cond b (found stay (cutDown 0 used history)) broken .formed ≡ b
@@ -114,7 +114,7 @@ module _ (n count stay used : ℕ) (history : List ℕ) (w : Walk) (e : w ≡ wa
 
   module _ (formed : formedRecords n count (cutDown 0 used history) ≡ true) where
     told : w ≡ found stay (cutDown 0 used history)
-    unfolding walked
+    unfolding walkDown
     told = e ∙ ap (λ (b : Bool). cond b (found stay (cutDown 0 used history)) broken) formed
 
     pub told-records : w .records ≡ length (cutDown 0 used history)

@@ -14,6 +14,6 @@ found stay ws = record { formed = true; records = length ws; below = placesTaken
 abbrev pub broken : Walk
 broken = record { formed = false; records = 0; below = 0 }
 
-unfoldable pub walked : (n count stay used : ℕ) → List ℕ → Walk
-walked n count stay used history =
+unfoldable pub walkDown : (n count stay used : ℕ) → List ℕ → Walk
+walkDown n count stay used history =
     let ws = cutDown 0 used history in cond (formedRecords n count ws) (found stay ws) broken

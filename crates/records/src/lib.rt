@@ -1,7 +1,7 @@
 // Whether the records of a history are well formed: one of them, and all that are in use, walked down from the last place used.
 ghost use mathlib.Core.Path.{_≡_};
 ghost use Rattle.rules.specs.Records.{recordAt, formedCell, formedCells, formedStep, formedRecord};
-ghost use Rattle.records.specs.Walks.{walked};
+ghost use Rattle.records.specs.Walks.{walkDown};
 
 // Whether a cell place is well formed, of N cells in a program of `count` instructions, with an address of at least `low`.
 fn is_formed_cell(place: u64, low: usize, n: usize, count: usize) -> bool
@@ -89,7 +89,7 @@ pub struct Walk {
 
 // Walks down over the records in use, from the last place used to the first, and tells how many places lie below the newest `stay` records.
 pub fn walk_down(history: &[u64], used: usize, n: usize, count: usize, stay: usize) -> Walk
-    ensures { λ a. ⌜ a ≡ walked n count stay used (now (history .entry)) ⌝ }
+    ensures { λ a. ⌜ a ≡ walkDown n count stay used (now (history .entry)) ⌝ }
 {
     let mut left = used;
     let mut passed = 0;

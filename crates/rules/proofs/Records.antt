@@ -27,6 +27,10 @@ formed-below n count low (q ∷ qs) h (suc k) kl =
     formed-below n count (cellAddress q + 1) qs (and-right (formedCell n count low q) (formedCells n count (cellAddress q + 1) qs) h) k
     (omega arith)
 
+-- a step place's cells lie within the places below it
+pub count-within : (n count below q : ℕ) → formedStep n count below q ≡ true → stepCount q ≤ below
+count-within n count below q h = leb-true _ _ (every-at (stepTests n count below q) 5 h)
+
 module _ (n count : ℕ) (w : HistoryRecord) (formed : formedRecord n count w ≡ true) where
   step-formed : formedStep n count (w .below) (w .place) ≡ true
   step-formed = and-left (formedStep n count (w .below) (w .place)) (formedCells n count 0 (w .cells)) formed
@@ -34,9 +38,8 @@ module _ (n count : ℕ) (w : HistoryRecord) (formed : formedRecord n count w �
   pub old-pc-below : stepPc (w .place) < count
   old-pc-below = ltb-true _ _ (every-at (stepTests n count (w .below) (w .place)) 2 step-formed)
 
-  -- its cells lie within the places below its step place
   pub cells-within : stepCount (w .place) ≤ w .below
-  cells-within = leb-true _ _ (every-at (stepTests n count (w .below) (w .place)) 5 step-formed)
+  cells-within = count-within n count (w .below) (w .place) step-formed
 
   pub addresses-below : (k : ℕ) → k < length (w .cells) → cellAddress (getD (w .cells) k 0) < n
   addresses-below =

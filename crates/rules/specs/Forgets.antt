@@ -16,7 +16,7 @@ use Rattle.rules.specs.Back.{back}
 use Rattle.rules.specs.Run.{run}
 use Rattle.rules.specs.Forget.{Forgets, forget}
 use Rattle.rules.specs.Examples.{programOf, ranWith, holds}
-use Rattle.rules.specs.KeptNumbers.{Seen, seenRun, backs}
+use Rattle.rules.specs.KeptNumbers.{Seen, seenRun, jumped, wrote, backs}
 use Rattle.rules.specs.declared.Registers.{Registers}
 
 abbrev seenForget : Registers → Forgets → Seen
@@ -54,15 +54,9 @@ forgets k l used kept used′ kept′ l′ = leaves (given "JUMP 0" k l used kep
 abbrev refuses : (k : ℕ) → List ℕ → (used kept : ℕ) → (number : ℕ) → Bool
 refuses k l used kept number = leaves (given "JUMP 0" k l used kept) number used kept l
 
--- step places: a JUMP at PC 0 with SP 0, and with SP 1; a step that wrote one cell, and two
-abbrev jumped : ℕ
-jumped = 0x8000000000000000
-
+-- step places besides that of a JUMP at PC 0 and of a step that wrote one cell: the JUMP with SP 1, and a step that wrote two
 abbrev jumped1 : ℕ
 jumped1 = 0x8000040000000000
-
-abbrev wrote : ℕ
-wrote = 0x8000000000400000
 
 abbrev wrote2 : ℕ
 wrote2 = 0x8000000000800000

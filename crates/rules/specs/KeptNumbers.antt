@@ -57,10 +57,10 @@ abbrev memoryGiven : List ℕ → Memory
 memoryGiven l = memory (0 ∷ 0 ∷ []) (0 ∷ 0 ∷ []) l []
 
 -- the place of a JUMP at PC 0, and of a step that says it wrote one cell
-abbrev jumped : ℕ
+abbrev pub jumped : ℕ
 jumped = 0x8000000000000000
 
-abbrev wrote : ℕ
+abbrev pub wrote : ℕ
 wrote = 0x8000000000400000
 
 -- "10": a step, a step-back and a run leave the kept number as it is, and a dwell tells 10 too

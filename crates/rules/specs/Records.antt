@@ -1,5 +1,6 @@
 -- Document 01, "History places", and document 02, letter i: the used history places cut into records, the newest first, and which records are well formed. One
--- record is one kept step. A step-back takes the first of them back, a forget gives up the last, request g counts them. Assumes nothing.
+-- record is one kept step. A step-back takes the first of them back, a forget gives up the last; where all are well formed they are as many as the step places that
+-- request g counts (proofs/Records.antt). Assumes nothing.
 use Prim.Native.Nat.{ℕ, zero, suc, _+_, _-_}
 use mathlib.Core.Bool.{Bool, true, _&&_}
 use mathlib.Core.List.{List, [], _∷_, _++_}

@@ -114,7 +114,7 @@ fn are_sound_cells(count: usize, tags: &[u8], bits: &[u32]) -> bool
     true
 }
 
-// Whether a table, registers and lent slices are what a step, a step-back and a run take: where not, they answer 10.
+// Whether a table, registers and lent slices are what the calls that are handed registers take: where not, they answer 10.
 pub fn is_sound(
     table: &[u64],
     length: usize,

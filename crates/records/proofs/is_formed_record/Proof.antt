@@ -6,7 +6,7 @@ use borrow.Author.Needs.{needs}
 use borrow.Author.Tests.{not-true, not-false}
 use lib.ListN.{getD}
 use Rattle.rules.specs.Records.{formedStep}
-use Rattle.records.proofs.Formed.{record-outside, record-step, count-within, record-cells}
+use Rattle.records.proofs.Formed.{record-outside, record-step, lies-within, record-cells}
 use Rattle.records.proofs.is_formed_record.Statement.{statement}
 use Rattle.records.proofs.is_formed_record.Tie as tie
 
@@ -46,7 +46,7 @@ step-count-requires c κs = search needs
 sub-from : tie.Need-sub-from
 sub-from c =
     let a = start (c .before) .args in
-    omega (arith, count-within (a .n) (a .count) (a .last) (a .history .now) (formed (c .before)) (c .step-count .result) (c .step-count .ensures))
+    omega (arith, lies-within (a .n) (a .count) (a .last) (a .history .now) (formed (c .before)) (c .step-count .result) (c .step-count .ensures))
 
 mul-are-formed-cells : tie.Need-mul-are-formed-cells
 mul-are-formed-cells c = search needs
