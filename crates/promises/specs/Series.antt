@@ -196,7 +196,7 @@ pub record Promised (p : Program) (o : State) (x : Unbounded) (s : Session) : Ty
   -- a forget is refused exactly "when k is above the kept number", with 14; else it is done, with 0
   pub forgets : (k : ℕ) → numberOfForgot (Forget.forget p k (s .registers) (s .memory) .answer)
       ≡ cond (leb k (s .registers .kept)) 0 (forgetNumber TooManySteps)
-  -- no state of that run is broken, and so none of the session is
+  -- no such state is broken, neither that of the run nor that of the session
   pub run-sound : sound p (plain (freshRun p x s) .registers) (plain (freshRun p x s) .memory) ≡ true
   pub sound : sound p (s .registers) (s .memory) ≡ true
 
