@@ -20,7 +20,7 @@ use Rattle.rules.specs.declared.Decision.{Decision}
 use Rattle.rules.specs.declared.Decision.the-variants.{Does}
 use Rattle.promises.specs.Unbounded.{Unbounded, moves, moved}
 use Rattle.promises.specs.Series.{State, Session, stateOf, step, accepted, begin, afresh, Origin, ahead, remembered, Promised}
-use Rattle.promises.specs.Agrees.{Fitting, KeepsUp}
+use Rattle.promises.specs.Agrees.{HasRoom, KeepsUp}
 use Rattle.promises.proofs.Runs.{steps-end, none-undone, none-forgotten}
 use Rattle.promises.proofs.Demand3Good.{step-good}
 use Rattle.promises.proofs.Demand3Run.{Makes, all-made}
@@ -41,9 +41,9 @@ module _ (p : Program) (o : State) (x₀ : Unbounded) (begins : Begins p o x₀)
   one-more true k l ls = refl
   one-more false k l ls = refl
 
-  fewer-places : (b : Bool) (l : List ℕ) (ls : List (List ℕ)) → length (placesOf ls) ≤ length (placesOf (added b l ls))
-  fewer-places true l ls = omega (arith, length-append (placesOf ls) l)
-  fewer-places false l ls = omega arith
+  places-grow : (b : Bool) (l : List ℕ) (ls : List (List ℕ)) → length (placesOf ls) ≤ length (placesOf (added b l ls))
+  places-grow true l ls = omega (arith, length-append (placesOf ls) l)
+  places-grow false l ls = omega arith
 
   kept-steps : (k : ℕ) → Kept p o x₀ begins (afresh p o k)
   kept-steps k = kept-series p o x₀ begins (replicate k step)
@@ -74,7 +74,7 @@ module _ (p : Program) (o : State) (x₀ : Unbounded) (begins : Begins p o x₀)
       let room : length (placesOf (added (ltb 0 h) newest (all k))) ≤ h =
       subst (λ (l : List (List ℕ)). length (placesOf l) ≤ h) (one-more (ltb 0 h) k newest (x .records))
       (subst (λ (d : Decision). length (placesOf (take (cond (ltb 0 h) (suc k) 0) (moves x d .records))) ≤ h) (m .2) fits) in
-      let made : s .made ≡ k = steps-made k (m .0) (omega (arith, fewer-places (ltb 0 h) newest (all k), room)) in
+      let made : s .made ≡ k = steps-made k (m .0) (omega (arith, places-grow (ltb 0 h) newest (all k), room)) in
       let does : judged p (s .registers) (s .memory .cells) (length (s .memory .output)) ≡ Does e =
       ap (λ (t : State). judged p (t .registers) (t .memory .cells) (length (t .memory .output))) (at-steps k made)
       ∙ judged-held p h (begins .short) x (run-reached p o x₀ begins k (m .0) .good) e (m .2) (all k) room in
@@ -82,12 +82,12 @@ module _ (p : Program) (o : State) (x₀ : Unbounded) (begins : Begins p o x₀)
       step-good p (stateOf s) (good-kept p o x₀ begins s (kept-steps k)) ∙ ap (carried (s .registers) (s .memory)) does in
       ap (λ (t : Session). t .made) (steps-end p k (begin o)) ∙ ap (λ (a : Stepped). s .made + accepted (a .answer)) answered ∙ omega (arith, made)
 
-pub keeps-up : (p : Program) (o : State) (x : Unbounded) → Origin p o x → (k : ℕ) → Fitting o (moved p k x) k → KeepsUp p o x k
-keeps-up p o x origin k fitting =
+pub keeps-up : (p : Program) (o : State) (x : Unbounded) → Origin p o x → (k : ℕ) → HasRoom o (moved p k x) k → KeepsUp p o x k
+keeps-up p o x origin k room =
     let begins : Begins p o x = origin-begins p o x origin in
     let s : Session = afresh p o k in
     let made : s .made ≡ k =
-    steps-made p o x begins k (all-made p x (begins .none) k (fitting .made)) (enough begins (ltb 0 (o .registers .h)) refl) in
+    steps-made p o x begins k (all-made p x (begins .none) k (room .made)) (enough begins (ltb 0 (o .registers .h)) refl) in
     let far : ahead s ≡ k = ahead-steps p o x begins k made in
     let left : remembered s ≡ k = remembered-steps p o x begins k made in
     let v : Promised p o x s = promised p o x begins s (kept-steps p o x begins k) in
@@ -103,11 +103,11 @@ keeps-up p o x origin k fitting =
           λ some.
           v .history (omega (arith, some, v .h))
           ∙ ap₂ (λ (n i : ℕ). placesOf (take n (moved p i x .records))) left far
-          ∙ ap placesOf (take-all k (moved p k x .records) (omega (arith, fitting .made)));
+          ∙ ap placesOf (take-all k (moved p k x .records) (omega (arith, room .made)));
     }
   where
     enough : (begins : Begins p o x) (b : Bool) → ltb 0 (o .registers .h) ≡ b → length (placesOf (take (cond b k 0) (reached p o x begins k .records))) ≤ o .registers .h
     enough begins true z =
-        subst (λ (l : List (List ℕ)). length (placesOf l) ≤ o .registers .h) (sym (take-all k (reached p o x begins k .records) (omega (arith, fitting .made))))
-        (fitting .room (ltb-true _ _ z))
+        subst (λ (l : List (List ℕ)). length (placesOf l) ≤ o .registers .h) (sym (take-all k (reached p o x begins k .records) (omega (arith, room .made))))
+        (room .fits (ltb-true _ _ z))
     enough begins false z = zero-le

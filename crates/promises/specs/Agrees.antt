@@ -32,10 +32,10 @@ pub record Agrees (p : Program) (x : Unbounded) (s : State) : Type 0 where
   pub leaves : (e : Effect)
       → Alike (moves x (Does e)) (record { registers = registersOf (s .registers) e; memory = memoryOf (s .registers) (s .memory) e })
 
--- the run y makes k steps, and there is room for all their records, or no history
-pub record Fitting (o : State) (y : Unbounded) (k : ℕ) : Type 0 where
+-- of a machine that begins at o: the run y makes k steps, and there is room for all their records, or no history
+pub record HasRoom (o : State) (y : Unbounded) (k : ℕ) : Type 0 where
   pub made : length (y .records) ≡ k
-  pub room : 0 < o .registers .h → length (placesOf (y .records)) ≤ o .registers .h
+  pub fits : 0 < o .registers .h → length (placesOf (y .records)) ≤ o .registers .h
 
 -- k steps of the machine that begins alike: each is accepted, and they leave what the run leaves, with all its records where there is a history
 pub record KeepsUp (p : Program) (o : State) (x : Unbounded) (k : ℕ) : Type 0 where
