@@ -1,7 +1,7 @@
 /* The SaM machine for C: every call of the proved library, with numbers and lent memory only.
  *
  * Link target/staticlib/libsam_c.a. Every call gives a number of document 01, with what requests a (24, 33), d (6),
- * e (5, 25, 33), f (60 to 63), g (10), h (10, 11, 12, 43) and i (10, 14) add:
+ * e (5, 25, 33), f (60 to 63), g (10), h (10, 11, 12, 43), i (10, 14) and j (11, 64 to 66) add:
  *
  *    0  done, or a run found HALT 1
  *    1  step with HALT 1
@@ -17,7 +17,7 @@
  *       256 bytes or a written count above its length; at a forget also a used record that is not well formed, or a
  *       kept number other than that of the records in use
  *   11  at reset N, H or the output outside the sizes below, or cells and tags of unequal count; at a run a limit above
- *       1,000,000
+ *       1,000,000; at a depth list N outside the sizes below
  *   12  WRITECH with a full output; it comes after 7 and before 8
  *   14  forget of more steps than are kept
  *   21  source too long                       26  label twice
@@ -32,13 +32,17 @@
  *   50  run limit reached
  *   60  dwell of a machine that is not halted 62  cell 0 neither INT nor FLOAT
  *   61  SP is 0                               63  cell 0 a NaN
+ *   64  depth list not of the program's length
+ *   65  a forbidden instruction, with its first place
+ *   66  a failed depth rule, with its first place
  *
  * A count of elements stands after each pointer. A pointer is never null and is aligned for its type, also where the
  * count is 0; memory lent to be written overlaps no other memory of the call.
  *
  * `told` is lent for what a call tells besides its number. A `told` of another length than the call's is 31 before
  * anything else, and stays as it is. Where a call is refused otherwise, the values told are zero, save the place, the
- * line and the column that assemble tells and the steps that a run made before a step was refused.
+ * line and the column that assemble tells, the steps that a run made before a step was refused and the place that a
+ * depth list is refused at.
  *
  * Assemble, list, pack and unpack write an output: a table, a text, an image. Refused, for a `told` of another length
  * too, they leave an output of wrong length untouched and zero one of right length. A refused step, step-back, forget,
@@ -64,7 +68,8 @@ enum {
     SAM_OUTPUT_LIMIT = 256,    /* bytes of a machine's output are 0 to this; one of 0 bytes is full */
     SAM_RUN_LIMIT = 1000000,   /* steps of one run */
     SAM_DWELL_SHORTEST = 10,   /* a dwell is this many tenths of a second at least, */
-    SAM_DWELL_LONGEST = 300    /* and this many at most */
+    SAM_DWELL_LONGEST = 300,   /* and this many at most */
+    SAM_NOT_REACHED = 65535    /* in a depth list: this place is not reached; any other number is a depth */
 };
 
 /* Bytes of stack that a call needs at most, its arguments on the stack and its return address among them, whatever the
@@ -80,7 +85,8 @@ enum {
     SAM_STEP_BACK_STACK = 512,
     SAM_FORGET_STACK = 512,
     SAM_RUN_STACK = 768,
-    SAM_DWELL_STACK = 512
+    SAM_DWELL_STACK = 512,
+    SAM_DEPTHS_STACK = 256
 };
 
 /* The registers are a lent slice of nine. Registers of another length are a 10 in 10's place, so after 11 at a reset
@@ -156,6 +162,15 @@ uint32_t sam_dwell(const uint64_t *table, size_t places, uint64_t length, const 
                    size_t registers_len, const uint32_t *bits, size_t n, const uint8_t *tags, size_t tags_len,
                    const uint64_t *history, size_t h, const uint8_t *output, size_t output_len, uint64_t *told,
                    size_t told_len);
+
+/* Judges a list of stack depths that comes beside a program, for a machine of n cells, and writes nothing but told. It
+ * is accepted (0) exactly if the program has no JSR, JSRIND, JUMPIND or POPSP, place 0 has depth 0, every place with a
+ * depth has enough values for its instruction, its depth after is below n, and each place that may follow has that same
+ * depth. Both ways of JUMPC count, STOP has no follower, and the program's end may never follow. From a reset with n
+ * cells no run of such a program meets 2, 3 or 7, and each place that it reaches has SP as its listed depth. 10 for the
+ * table, 11 for n, then 64, 65, 66 in order; an empty program is 66. told[1]: the place of 65 and 66, else 0. */
+uint32_t sam_depths(const uint64_t *table, size_t places, uint64_t length, uint64_t n, const uint16_t *depths,
+                    size_t depths_len, uint64_t *told, size_t told_len);
 
 #ifdef __cplusplus
 }

@@ -7,6 +7,7 @@ use lib.IntN.{ℤ, pos, negsuc, natAbs, _+ℤ_}
 use lib.Dec.{ltb}
 use borrow.Author.Tests.{lt-ltb, le-ltb, le-leb, lt-leb, ltb-true, ltb-false}
 use Rattle.rules.proofs.Tests.{by-test}
+use Rattle.rules.proofs.Readings.{signed-plus, signed-minus}
 use Rattle.rules.specs.Words.{signed}
 use Rattle.rules.specs.Tags.{int}
 use Rattle.rules.specs.Effects.{memoryAddress, moved}
@@ -19,20 +20,19 @@ use Rattle.rules.specs.declared.Decision.the-variants.{Does, Refuses}
 use Rattle.rules.specs.declared.MachineRefusal.the-variants.{TooFewValues}
 use Rattle.machine.specs.Reach.{reachOf}
 use Rattle.machine.specs.declared.addresses.Reach.the-variants.{To, Below}
-use Rattle.machine.proofs.Signed.{signed-low, signed-high}
 
 -- ---- the three ways
 
 pub reach-up : (a n : ℕ) → n < 2147483648 → To (record { 0 = a + n }) ≡ reachOf (pos a +ℤ signed n)
-reach-up a n h = rw (signed-low n h) refl
+reach-up a n h = rw (signed-plus n h) refl
 
 pub reach-below : (a n : ℕ) → 2147483648 ≤ n → a < 4294967295 - n + 1 → Below ≡ reachOf (pos a +ℤ signed n)
-reach-below a n h l = rw (signed-high n h, lt-ltb a (suc (2 ^ 32 - suc n)) (omega arith)) refl
+reach-below a n h l = rw (signed-minus n h, lt-ltb a (suc (2 ^ 32 - suc n)) (omega arith)) refl
 
 pub reach-down : (a n : ℕ) → 2147483648 ≤ n → n < 4294967296 → 4294967295 - n + 1 ≤ a
     → To (record { 0 = a - (4294967295 - n + 1) }) ≡ reachOf (pos a +ℤ signed n)
 reach-down a n h f l =
-    rw (signed-high n h, le-ltb a (suc (2 ^ 32 - suc n)) (omega arith))
+    rw (signed-minus n h, le-ltb a (suc (2 ^ 32 - suc n)) (omega arith))
     (ap (λ (k : ℕ). To (record { 0 = k })) (omega arith))
 
 -- ---- what that says of the number

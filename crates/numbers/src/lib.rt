@@ -1,6 +1,8 @@
 // "Numbers given back": the number that a refusal or a call's answer stands for, and the values that it tells.
 use rules::Assembled;
 use rules::Begun;
+use rules::Checked;
+use rules::DepthRefusal;
 use rules::Dwell;
 use rules::DwellRefusal;
 use rules::Ending;
@@ -15,7 +17,7 @@ use rules::Position;
 use rules::Step;
 use rules::TextRefusal;
 ghost use mathlib.Core.Path.{_≡_};
-ghost use Rattle.rules.specs.Numbers.{machineNumber, textNumber, imageNumber, numberOfReset, numberOfStep, numberOfEnding, numberOfAssembled, lengthOfAssembled, positionOfAssembled, numberOfListed, lengthOfListed, numberOfPacked, lengthOfPacked, unreadNumber, numberOfDwell, tenthsOfDwell, forgetNumber, numberOfForgot};
+ghost use Rattle.rules.specs.Numbers.{machineNumber, textNumber, imageNumber, numberOfReset, numberOfStep, numberOfEnding, numberOfAssembled, lengthOfAssembled, positionOfAssembled, numberOfListed, lengthOfListed, numberOfPacked, lengthOfPacked, unreadNumber, numberOfDwell, tenthsOfDwell, forgetNumber, numberOfForgot, depthNumber, numberOfChecked, placeOfChecked};
 
 // The number of a refusal of the machine: 1 to 12.
 pub fn machine_number(e: MachineRefusal) -> u32
@@ -93,6 +95,19 @@ pub fn forget_number(e: ForgetRefusal) -> u32
     match e {
         ForgetRefusal::RecordsBroken => 10,
         ForgetRefusal::TooManySteps => 14,
+    }
+}
+
+// The number of a refusal of the depth checker: 10, 11, and 64 to 66.
+pub fn depth_number(e: DepthRefusal) -> u32
+    ensures { λ r. ⌜ r ≡ depthNumber e ⌝ }
+{
+    match e {
+        DepthRefusal::UnsoundTable => 10,
+        DepthRefusal::OutsideCells => 11,
+        DepthRefusal::ListLength => 64,
+        DepthRefusal::ForbiddenInstruction => 65,
+        DepthRefusal::RuleFailed => 66,
     }
 }
 
@@ -219,5 +234,24 @@ pub fn dwell_tenths(dwell: Dwell) -> usize
     match dwell {
         Dwell::Tenths(tenths) => tenths as usize,
         Dwell::Unread(_) => 0,
+    }
+}
+
+// The number and the place of the depth checker's answer.
+pub fn checked_number(checked: Checked) -> u32
+    ensures { λ r. ⌜ r ≡ numberOfChecked checked ⌝ }
+{
+    match checked {
+        Checked::Accepted => 0,
+        Checked::NotAccepted(e, _) => depth_number(e),
+    }
+}
+
+pub fn checked_place(checked: Checked) -> usize
+    ensures { λ r. ⌜ r ≡ placeOfChecked checked ⌝ }
+{
+    match checked {
+        Checked::Accepted => 0,
+        Checked::NotAccepted(_, place) => place,
     }
 }

@@ -2,3 +2,4 @@
 pub mod OperandCodes
 pub mod NameWords
 pub mod NameTable
+pub mod ByCode

@@ -29,7 +29,7 @@ bare-is Target h = absurd (false≢true h)
 bare-is Character h = absurd (false≢true h)
 
 -- one of the numbers
-oneOf : List ℕ → ℕ → Bool
+unfoldable pub oneOf : List ℕ → ℕ → Bool
 oneOf [] c = false
 oneOf (x ∷ xs) c = eqb c x || oneOf xs c
 
@@ -42,7 +42,7 @@ abbrev pub NoneOf : List ℕ → ℕ → Type 0
 NoneOf [] c = Unit {0}
 NoneOf (x ∷ xs) c = NoneOf xs c × (c ≡ x → ⊥)
 
-none-one : (l : List ℕ) (c : ℕ) → NoneOf l c → oneOf l c ≡ false
+pub none-one : (l : List ℕ) (c : ℕ) → NoneOf l c → oneOf l c ≡ false
 unfolding oneOf
 none-one [] c n = refl
 none-one (x ∷ xs) c n = rw (ne-eqb c x (n .1), none-one xs c (n .0))

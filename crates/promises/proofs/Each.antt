@@ -1,9 +1,6 @@
--- What holds of each of a list. Assumes nothing.
+-- What holds of each of a list, and of one more. Assumes nothing.
 use mathlib.Core.List.{List, [], _∷_, _++_}
-
-abbrev pub Each : {A : Type 0} → (A → Type 0) → List A → Type 0
-Each P [] = Unit {0}
-Each P (x ∷ xs) = P x × Each P xs
+use Rattle.promises.specs.Each.{Each}
 
 pub each-one-more : {A : Type 0} (P : A → Type 0) (xs : List A) (x : A) → Each P xs → P x → Each P (xs ++ x ∷ [])
 each-one-more P [] x h k = (k, tt)

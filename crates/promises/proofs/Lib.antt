@@ -27,5 +27,10 @@ pub mod Tenths
 pub mod Dwells
 -- Request g: how many steps can be taken back.
 pub mod TakesBack
+-- Request j: the depth list that comes with a program.
+pub mod Moves
+pub mod Acceptable
+pub mod OnList
+pub mod Delivered
 -- All of them, and those of other crates, each below its sentence.
 mod Theorems

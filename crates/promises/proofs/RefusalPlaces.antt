@@ -25,7 +25,8 @@ use Rattle.rules.specs.declared.TextRefusal.{TextRefusal}
 use Rattle.rules.specs.declared.TextRefusal.the-variants.{ForbiddenByte, NoInstruction, OperandMissing, OperandRange, LabelTwice, LabelUnknown, TooManyInstructions, TooManyLabels, LabelTooLong, OperandForm}
 use Rattle.rules.proofs.Tests.{by-test, either, or-left, or-right}
 use Rattle.promises.specs.Refusals.{ofNoByte}
-use Rattle.promises.proofs.Each.{Each, each-one-more}
+use Rattle.promises.specs.Each.{Each}
+use Rattle.promises.proofs.Each.{each-one-more}
 use Rattle.promises.proofs.TokenPlaces.{Between, Lie, tokens-lie}
 
 -- ---- a refusal told at the right place of a source of that size

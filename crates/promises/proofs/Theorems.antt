@@ -88,3 +88,13 @@ use Rattle.rules.specs.Characters.{all-characters}
 use Rattle.rules.specs.Forgets.{all-forgettings}
 -- "the records in use" are what request g counts by their step places
 use Rattle.rules.proofs.Records.{steps-cut}
+-- ---- Request j: "Accept exactly if place 0 has depth 0, every place with a depth has enough values for its instruction, its depth after is below N, and each place that may follow has that same depth."
+
+use Rattle.promises.proofs.Acceptable.{accepted-acceptable, acceptable-accepted}
+-- "65 a forbidden instruction, 66 a failed depth rule, both with their first place"
+use Rattle.promises.proofs.Acceptable.{first-forbidden, first-failing}
+-- what an instruction needs and where SP is after it, by its row: an accepted step asks for that and leaves that
+use Rattle.promises.proofs.Moves.{decided-told}
+-- "From a reset, no run of an accepted program meets 2, 3 or 7. Each place such a run reaches has SP as its listed depth."
+use Rattle.promises.proofs.Delivered.{as-listed}
+use Rattle.rules.specs.Deliveries.{all-judged}

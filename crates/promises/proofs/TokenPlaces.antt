@@ -8,7 +8,7 @@ use lib.ListN.{length}
 use Rattle.rules.specs.Bytes.{LF, blank}
 use Rattle.rules.specs.Tokens.{Token, opens, last, extend, tokens, comment}
 use Rattle.rules.proofs.Tests.{either}
-use Rattle.promises.proofs.Each.{Each}
+use Rattle.promises.specs.Each.{Each}
 
 -- a token has a byte, and its bytes lie from low on and below high
 pub record Between (low high : ℕ) (t : Token) : Type 0 where

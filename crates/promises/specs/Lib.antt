@@ -1,4 +1,5 @@
 -- What the demands say, and what a request promises besides.
+pub mod Each
 pub mod Unbounded
 pub mod Series
 pub mod Agrees
@@ -6,3 +7,4 @@ pub mod Whole
 pub mod Refusals
 pub mod Addresses
 pub mod Dwells
+pub mod Delivered

@@ -60,6 +60,9 @@ reads-in-word z b e = below-in-word z (subst (λ (y : ℤ). mag y < 2 ^ 31) e (s
 pub signed-plus : (t : ℕ) → t < 2 ^ 31 → signed t ≡ pos t
 signed-plus t h = rw (lt-ltb t (2 ^ 31) h)
 
+pub signed-minus : (t : ℕ) → 2 ^ 31 ≤ t → signed t ≡ negsuc (2 ^ 32 - suc t)
+signed-minus t h = rw (le-ltb t (2 ^ 31) h) refl
+
 pub size-plus : (t : ℕ) → t < 2 ^ 31 → natAbs (signed t) ≡ t
 size-plus t h = ap natAbs (signed-plus t h)
 

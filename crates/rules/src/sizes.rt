@@ -25,6 +25,9 @@ pub const MAX_CHARACTER: u32 = 127;
 // "Run limit 0 to 1,000,000."
 pub const MAX_LIMIT: usize = 1_000_000;
 
+// the mark "not reached" in a list of depths (02 j)
+pub const NOT_REACHED: u16 = 65_535;
+
 // "Listing: 20,480 bytes", "Output 4,866 bytes"
 pub const LISTING_SIZE: usize = 20_480;
 

@@ -9,16 +9,17 @@ use Rattle.rules.specs.Reset.{Started}
 use Rattle.rules.specs.Step.{Stepped}
 use Rattle.rules.specs.Run.{Ran}
 use Rattle.rules.specs.Forget.{Forgets}
-use Rattle.rules.specs.Numbers.{numberOfReset, numberOfStep, registersAfter, numberOfEnding, numberOfDwell, tenthsOfDwell, numberOfForgot, registersForgot}
+use Rattle.rules.specs.Numbers.{numberOfReset, numberOfStep, registersAfter, numberOfEnding, numberOfDwell, tenthsOfDwell, numberOfForgot, registersForgot, numberOfChecked, placeOfChecked}
 use Rattle.rules.specs.declared.Registers.{Registers}
 use Rattle.rules.specs.declared.Reset.{Reset}
 use Rattle.rules.specs.declared.Step.{Step}
 use Rattle.rules.specs.declared.Run.{Run}
 use Rattle.rules.specs.declared.Dwell.{Dwell}
 use Rattle.rules.specs.declared.Forgot.{Forgot}
+use Rattle.rules.specs.declared.Checked.{Checked}
 use Rattle.state.specs.Outcomes.{started, stepped}
 use Rattle.forget.specs.Outcomes.{forgot}
-use Rattle.sam_c.specs.Calls.{Filled, Moved, filled, moved, ofLength, notItsLength, untold, registerCount, listOf, registersOf, resetMoved, stepMoved, forgetMoved, Walked, walked, runWalked, Answered, answered, dwellAnswered}
+use Rattle.sam_c.specs.Calls.{Filled, Moved, filled, moved, ofLength, notItsLength, untold, registerCount, listOf, registersOf, resetMoved, stepMoved, forgetMoved, Walked, walked, runWalked, Answered, answered, dwellAnswered, depthsAnswered}
 use Rattle.sam_c.proofs.Lent.{of-length, of-another}
 
 -- a call that fills an output, whose answer is a′ and which leaves out′
@@ -82,3 +83,9 @@ module _ (t : List ℕ) (ht : length t ≡ 1) (l : List ℕ) (h : length l ≡ r
       ∙ ap (λ (q : Registers). dwellAnswered (f q)) er
       ∙ sym (of-length registerCount l _ _ h)
       ∙ sym (of-length 1 t _ _ ht)
+
+-- a judgement, which answers d′
+pub depths-called : (t : List ℕ) (ht : length t ≡ 1) (instead : Answered) {k : ℕ} {d d′ : Checked} {place : ℕ} {told : List ℕ} → d ≡ d′ → told ≡ place ∷ []
+    → place ≡ placeOfChecked d → k ≡ numberOfChecked d → answered k told ≡ ofLength 1 t (depthsAnswered d′) instead
+depths-called t ht instead ed et ep ek =
+    (λ i. answered (ek i) ((et ∙ ap (λ (x : ℕ). x ∷ []) ep) i)) ∙ ap depthsAnswered ed ∙ sym (of-length 1 t _ _ ht)

@@ -19,10 +19,12 @@ use Rattle.rules.specs.Back.{back}
 use Rattle.rules.specs.Run.{Ran, run}
 use Rattle.rules.specs.Forget.{Forgets, forget}
 use Rattle.rules.specs.Dwell.{dwell}
-use Rattle.rules.specs.Numbers.{machineNumber, textNumber, numberOfAssembled, lengthOfAssembled, positionOfAssembled, numberOfListed, lengthOfListed, numberOfPacked, lengthOfPacked, numberOfReset, numberOfStep, registersAfter, numberOfEnding, numberOfDwell, tenthsOfDwell, numberOfForgot, registersForgot}
+use Rattle.rules.specs.DepthList.{check}
+use Rattle.rules.specs.Numbers.{machineNumber, textNumber, numberOfAssembled, lengthOfAssembled, positionOfAssembled, numberOfListed, lengthOfListed, numberOfPacked, lengthOfPacked, numberOfReset, numberOfStep, registersAfter, numberOfEnding, numberOfDwell, tenthsOfDwell, numberOfForgot, registersForgot, numberOfChecked, placeOfChecked}
 use Rattle.rules.specs.declared.Position.{Position}
 use Rattle.rules.specs.declared.Registers.{Registers}
 use Rattle.rules.specs.declared.Dwell.{Dwell}
+use Rattle.rules.specs.declared.Checked.{Checked}
 use Rattle.rules.specs.declared.MachineRefusal.the-variants.{Broken, OutsideSizes}
 use Rattle.rules.specs.declared.TextRefusal.the-variants.{WrongLength}
 
@@ -188,3 +190,12 @@ dwellCall p registers m told =
     ofLength 1 told
     (ofLength registerCount registers (dwellAnswered (dwell p (registersOf registers) m)) (answered broken (0 ∷ [])))
     (answered notItsLength told)
+
+-- ---- the call that only reads a program and its depth list
+
+-- "both with their first place, others tell 0" (02 j)
+abbrev pub depthsAnswered : Checked → Answered
+depthsAnswered d = answered (numberOfChecked d) (placeOfChecked d ∷ [])
+
+abbrev pub depthsCall : Program → (n : ℕ) → List ℕ → List ℕ → Answered
+depthsCall p n depths told = ofLength 1 told (depthsAnswered (check p n depths)) (answered notItsLength told)

@@ -8,10 +8,11 @@ use lib.ListN.{replicate}
 use lib.Dec.{eqb}
 use Rattle.rules.specs.Lists.{text, every, same}
 use Rattle.rules.specs.Sizes.{maxProgram, maxHistory, maxOutput, maxLimit, listingSize, imageSize}
-use Rattle.rules.specs.Table.{program}
+use Rattle.rules.specs.Table.{Program, program}
 use Rattle.rules.specs.State.{Memory, memory}
 use Rattle.rules.specs.Examples.{programOf, holds}
-use Rattle.sam_c.specs.Calls.{Filled, Moved, ofLength, assembleCall, listCall, packCall, unpackCall, resetCall, forgetCall, runCall}
+use Rattle.rules.specs.DepthList.{check}
+use Rattle.sam_c.specs.Calls.{Filled, Moved, ofLength, assembleCall, listCall, packCall, unpackCall, resetCall, forgetCall, runCall, depthsCall}
 
 -- what stood in every lent place before
 abbrev old : ℕ → List ℕ
@@ -53,6 +54,11 @@ runs number limit registers told after =
     let w = runCall (programOf "STOP") limit (old registers) m told in
     stays (w .moved) number (old registers) m && same (w .told) after
 
+-- a depth list of a machine of N cells, with so many values to tell, which are told as these
+abbrev judges : (number : ℕ) → Program → (n : ℕ) (depths told after : List ℕ) → Bool
+judges number p n depths told after =
+    let a = depthsCall p n depths told in eqb (a .number) number && same (a .told) after
+
 unfoldable pub lengths : List Bool
 lengths =
     -- "Refused writers leave an output of wrong length untouched, zero one of right length", refused for what they tell too, and then for nothing else
@@ -80,8 +86,14 @@ lengths =
     ∷ runs 10 maxLimit 8 (old 1) (zeros 1)
     ∷ runs 10 0 10 (old 1) (zeros 1)
     ∷ runs 31 (maxLimit + 1) 8 (old 2) (old 2)
+    -- "10, then 11 .., 64 .." (02 j): what is told comes before them, and is told 0 with them
+    ∷ judges 31 (program [] 1) 0 [] (old 2) (old 2)
+    ∷ judges 31 (programOf "STOP") 1 (0 ∷ []) [] []
+    ∷ judges 10 (program [] 1) 0 [] (old 1) (zeros 1)
+    ∷ judges 11 (programOf "STOP") 0 [] (old 1) (zeros 1)
+    ∷ judges 64 (programOf "STOP") 1 [] (old 1) (zeros 1)
     ∷ []
 
 pub all-lengths : every lengths ≡ true
-unfolding lengths ofLength holds
+unfolding lengths ofLength holds check
 all-lengths = refl

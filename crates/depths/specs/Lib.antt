@@ -1,0 +1,2 @@
+-- What the contracts of this crate cite besides the rules.
+pub mod Judged

@@ -1,0 +1,185 @@
+-- Request j: "Accept exactly if ..": a list is accepted where it is acceptable, and only there; and 65 and 66 tell the first place that fails. Assumes nothing.
+use Prim.Native.Nat.{ℕ, _+_, _<_, zero-le}
+use mathlib.Core.Path.{_≡_, refl, sym, ap, subst, _∙_}
+use mathlib.Core.Bool.{Bool, true, false, not, _&&_, _||_, cond, false≢true}
+use mathlib.Core.List.{List, [], _∷_}
+use native.Mathlib.Omega.{arith}
+use lib.Dec.{leb, ltb, eqb}
+use lib.ListN.{length, getD}
+use borrow.Author.Tests.{leb-true, le-leb, ltb-true, lt-ltb, eqb-true, eqb-false, eq-eqb, ne-eqb, not-true}
+use Rattle.rules.specs.Lists.{all, every}
+use Rattle.rules.specs.Sizes.{maxCells, notReached}
+use Rattle.rules.specs.Instructions.{rowOf, actionOf}
+use Rattle.rules.specs.Table.{Program, codeOf, operandOf, soundTable}
+use Rattle.rules.specs.DepthList.{depthAfter, followers, forbidden, allowed, listed, ruleTests, ruleOf, rule, firstFailing, acceptIf, check}
+use Rattle.rules.specs.Numbers.{depthNumber, numberOfChecked, placeOfChecked}
+use Rattle.rules.specs.declared.DepthRefusal.{DepthRefusal}
+use Rattle.rules.specs.declared.DepthRefusal.the-variants.{UnsoundTable, OutsideCells, ListLength, ForbiddenInstruction, RuleFailed}
+use Rattle.rules.specs.declared.Checked.{Checked}
+use Rattle.rules.specs.declared.Checked.the-variants.{Accepted, NotAccepted}
+use Rattle.rules.proofs.Tests.{by-test, and-left, and-right, every-at}
+use Rattle.rules.proofs.Enough.{enough-le, le-enough}
+use Rattle.rules.proofs.Failing.{IsFirst, is-first, none-fails, all-pass}
+use Rattle.promises.specs.Each.{Each}
+use Rattle.promises.specs.Delivered.{depthAt, HasDepth, OwnRule, instructionAt, Acceptable, FirstOf}
+
+-- ---- the tests, and what they say
+
+module _ (p : Program) (depths : List ℕ) (depth : ℕ) where
+  pub listed-has : (place : ℕ) → listed (p .count) depths depth place ≡ true → HasDepth p depths depth place
+  unfolding listed
+  listed-has place h =
+      record {
+        inside = ltb-true place (p .count) (and-left (ltb place (p .count)) (eqb (depthAt depths place) depth) h);
+        listed = eqb-true (depthAt depths place) depth (and-right (ltb place (p .count)) (eqb (depthAt depths place) depth) h);
+      }
+
+  has-listed : (place : ℕ) → HasDepth p depths depth place → listed (p .count) depths depth place ≡ true
+  unfolding listed
+  has-listed place h = rw (lt-ltb place (p .count) (h .inside), eq-eqb (depthAt depths place) depth (h .listed)) refl
+
+  all-have : (l : List ℕ) → all (listed (p .count) depths depth) l ≡ true → Each (HasDepth p depths depth) l
+  unfolding all
+  all-have [] h = tt
+  all-have (x ∷ l) h = (listed-has x (and-left _ _ h), all-have l (and-right (listed (p .count) depths depth x) _ h))
+
+  pub have-all : (l : List ℕ) → Each (HasDepth p depths depth) l → all (listed (p .count) depths depth) l ≡ true
+  unfolding all
+  have-all [] h = refl
+  have-all (x ∷ l) h = rw (has-listed x (h .0), have-all l (h .1)) refl
+
+module _ (p : Program) (n : ℕ) (depths : List ℕ) (w place depth : ℕ) where
+  abbrev tests : List Bool
+  tests = ruleTests (p .count) n depths (actionOf (codeOf w)) (operandOf w) place depth
+
+  abbrev Own : Type 0
+  Own = OwnRule p n depths (actionOf (codeOf w)) (operandOf w) place depth
+
+  rule-own : (depth ≡ notReached → ⊥) → ruleOf (p .count) n depths w place depth ≡ true → Own
+  rule-own some h =
+      let passed : every tests ≡ true = sym (ap (λ (b : Bool). b || every tests) (ne-eqb depth notReached some)) ∙ h in
+      record {
+        enough = enough-le _ depth (every-at tests 0 passed);
+        low = ltb-true _ n (every-at tests 1 passed);
+        follow = all-have p depths _ _ (every-at tests 2 passed);
+      }
+
+  own-rule : ((depth ≡ notReached → ⊥) → Own) → ruleOf (p .count) n depths w place depth ≡ true
+  own-rule own =
+      by-test (eqb depth notReached)
+      (λ e. ap (λ (b : Bool). b || every tests) e)
+      (λ e.
+      let o : Own = own (eqb-false depth notReached e) in
+      ap (λ (b : Bool). b || every tests) e
+      ∙ rw (le-enough _ depth (o .enough), lt-ltb _ n (o .low), have-all p depths _ _ (o .follow)) refl)
+
+-- ---- "Accept exactly if"
+
+not-accepted : {A : Type 0} (e : DepthRefusal) (place : ℕ) → NotAccepted e place ≡ Accepted → A
+not-accepted e place q = let z : _≡_ {A = ℕ} 0 1 = cc in absurd (let y : ⊥ = omega arith in y)
+
+passed : (test : Bool) (e : DepthRefusal) (place : ℕ) (d : Checked) → acceptIf test e place d ≡ Accepted → (test ≡ true) × (d ≡ Accepted)
+passed true e place d q = (refl, q)
+passed false e place d q = not-accepted e place q
+
+pub accepted-acceptable : (p : Program) (n : ℕ) (depths : List ℕ) → check p n depths ≡ Accepted → Acceptable p n depths
+unfolding check allowed rule
+accepted-acceptable p n depths q =
+    let a = passed _ _ _ _ q in
+    let b = passed _ _ _ _ (a .1) in
+    let c = passed _ _ _ _ (b .1) in
+    let d = passed _ _ _ _ (c .1) in
+    let e = passed _ _ _ _ (d .1) in
+    let f = passed _ _ _ _ (e .1) in
+    record {
+      table = a .0;
+      some = leb-true _ _ (and-left (leb 1 n) (leb n maxCells) (b .0));
+      few = leb-true _ _ (and-right (leb 1 n) (leb n maxCells) (b .0));
+      long = eqb-true _ _ (c .0);
+      allows = λ k h. not-true _ (none-fails (allowed p) (p .count) (eqb-true _ _ (d .0)) k h);
+      start = listed-has p depths 0 0 (e .0);
+      rules = λ k h some. rule-own p n depths (instructionAt p k) k (depthAt depths k) some (none-fails (rule p n depths) (p .count) (eqb-true _ _ (f .0)) k h);
+    }
+
+pub acceptable-accepted : (p : Program) (n : ℕ) (depths : List ℕ) → Acceptable p n depths → check p n depths ≡ Accepted
+unfolding check allowed rule
+acceptable-accepted p n depths a =
+    let allows : firstFailing (allowed p) (p .count) 0 ≡ p .count = all-pass (allowed p) (p .count) (λ k h. ap not (a .allows k h)) in
+    let rules : firstFailing (rule p n depths) (p .count) 0 ≡ p .count =
+    all-pass (rule p n depths) (p .count) (λ k h. own-rule p n depths (instructionAt p k) k (depthAt depths k) (a .rules k h)) in
+    rw (
+      a .table,
+      le-leb 1 n (a .some),
+      le-leb n maxCells (a .few),
+      eq-eqb (length depths) (p .count) (a .long),
+      eq-eqb (firstFailing (allowed p) (p .count) 0) (p .count) allows,
+      has-listed p depths 0 0 (a .start),
+      eq-eqb (firstFailing (rule p n depths) (p .count) 0) (p .count) rules,
+    ) refl
+
+-- ---- "both with their first place"
+
+-- the six tests in their order, with the places that the fourth and the last are told with
+abbrev inOrder : (table cells length allows start rules : Bool) (forbidden failing : ℕ) → Checked
+inOrder table cells length allows start rules forbidden failing =
+    acceptIf table UnsoundTable 0
+    (acceptIf cells OutsideCells 0
+    (acceptIf length ListLength 0
+    (acceptIf allows ForbiddenInstruction forbidden (acceptIf start RuleFailed 0 (acceptIf rules RuleFailed failing Accepted)))))
+
+other : {A : Type 0} (d : Checked) (e : DepthRefusal) (k : ℕ) → d ≡ NotAccepted e k → (numberOfChecked d ≡ depthNumber e → ⊥) → A
+other d e k q h = absurd (h (ap numberOfChecked q))
+
+by-forbidden : (a b c d e f : Bool) (i j k : ℕ) → inOrder a b c d e f i j ≡ NotAccepted ForbiddenInstruction k → (d ≡ false) × (i ≡ k)
+by-forbidden false b c d e f i j k q = other _ _ k q (λ z. omega (arith, z))
+by-forbidden true false c d e f i j k q = other _ _ k q (λ z. omega (arith, z))
+by-forbidden true true false d e f i j k q = other _ _ k q (λ z. omega (arith, z))
+by-forbidden true true true false e f i j k q = (refl, ap placeOfChecked q)
+by-forbidden true true true true false f i j k q = other _ _ k q (λ z. omega (arith, z))
+by-forbidden true true true true true false i j k q = other _ _ k q (λ z. omega (arith, z))
+by-forbidden true true true true true true i j k q = other _ _ k q (λ z. omega (arith, z))
+
+by-rule : (a b c d e f : Bool) (i j k : ℕ) → inOrder a b c d e f i j ≡ NotAccepted RuleFailed k → cond e ((f ≡ false) × (j ≡ k)) (k ≡ 0)
+by-rule false b c d e f i j k q = other _ _ k q (λ z. omega (arith, z))
+by-rule true false c d e f i j k q = other _ _ k q (λ z. omega (arith, z))
+by-rule true true false d e f i j k q = other _ _ k q (λ z. omega (arith, z))
+by-rule true true true false e f i j k q = other _ _ k q (λ z. omega (arith, z))
+by-rule true true true true false f i j k q = sym (ap placeOfChecked q)
+by-rule true true true true true false i j k q = (refl, ap placeOfChecked q)
+by-rule true true true true true true i j k q = other _ _ k q (λ z. omega (arith, z))
+
+first-of : (p : Program) (test : ℕ → Bool) (k : ℕ) → eqb (firstFailing test (p .count) 0) (p .count) ≡ false → firstFailing test (p .count) 0 ≡ k
+    → FirstOf p test k
+first-of p test k h q =
+    let first : IsFirst test 0 (0 + p .count) (firstFailing test (p .count) 0) = is-first test (p .count) 0 in
+    let not-all : firstFailing test (p .count) 0 ≡ p .count → ⊥ = eqb-false _ _ h in
+    let low : firstFailing test (p .count) 0 < p .count = omega (arith, not-all, first .within) in
+    subst (FirstOf p test) q (record { inside = low; fails = first .fails (omega (arith, low)); before = λ j l. first .before j zero-le l })
+
+module _ (p : Program) (n : ℕ) (depths : List ℕ) (place : ℕ) where
+  abbrev forbiddenAt : ℕ
+  forbiddenAt = firstFailing (allowed p) (p .count) 0
+
+  abbrev failingAt : ℕ
+  failingAt = firstFailing (rule p n depths) (p .count) 0
+
+  -- the place of 65 is the first with a forbidden instruction
+  pub first-forbidden : check p n depths ≡ NotAccepted ForbiddenInstruction place → FirstOf p (allowed p) place
+  unfolding check
+  first-forbidden q =
+      let from =
+      by-forbidden (soundTable p) (leb 1 n && leb n maxCells) (eqb (length depths) (p .count)) (eqb forbiddenAt (p .count)) (listed (p .count) depths 0 0)
+      (eqb failingAt (p .count)) forbiddenAt failingAt place q in
+      first-of p (allowed p) place (from .0) (from .1)
+
+  -- the place of 66 is 0 where place 0 has not depth 0, and else the first whose rule fails
+  pub first-failing : check p n depths ≡ NotAccepted RuleFailed place → cond (listed (p .count) depths 0 0) (FirstOf p (rule p n depths) place) (place ≡ 0)
+  unfolding check
+  first-failing q =
+      by-start (listed (p .count) depths 0 0)
+      (by-rule (soundTable p) (leb 1 n && leb n maxCells) (eqb (length depths) (p .count)) (eqb forbiddenAt (p .count)) (listed (p .count) depths 0 0)
+      (eqb failingAt (p .count)) forbiddenAt failingAt place q)
+    where
+      by-start : (b : Bool) → cond b ((eqb failingAt (p .count) ≡ false) × (failingAt ≡ place)) (place ≡ 0) → cond b (FirstOf p (rule p n depths) place) (place ≡ 0)
+      by-start true from = first-of p (rule p n depths) place (from .0) (from .1)
+      by-start false from = from
