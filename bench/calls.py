@@ -101,6 +101,10 @@ class Script:
         self.room_gained = Counter()  # (word, sign of the places free less those needed, number) after a forget
         # (Whether there is a history, steps, whether any were forgotten) of each series all taken back; 2 is for more.
         self.taken_back = Counter()
+        self.depth_lists = Counter()  # (what is tried, .., number, place) of each depth list
+        self.damaged_lists = Counter()  # (what was damaged, number) of each list that was right before
+        self.depth_tolds = Counter()  # (told's length, number of the list alone) of each depth list with another told
+        self.listed_calls = Counter()  # (word, number) of each call on a machine whose program has a list
         self.wrong_tolds = Counter()  # (word, told's length, output's length, number of the input alone) of writers
         self.register_lengths = Counter()  # (line, number with nine, length, number) of each with another length
         self.resets = Counter()  # (length of the registers, cells, tags, history places, output, number) of each reset
@@ -176,6 +180,20 @@ class Script:
         line = f"{name} {size} {told_length}"
         self.call(line, number, [("told", list_word(told)), ("bytes", output_word(written))])
         return bytes(written[: told[0]]) if number == 0 else b""
+
+    # ---- a depth list
+
+    def depths(self, program, n, depths, told_length=1):
+        """(number, place) of a list for the program that was said last. A told of another length is 31 before anything
+        else and stays as it is; the table and the list always do."""
+        number, place = sam.check_depths(program, n, depths)
+        told = [place]
+        if told_length != 1:
+            self.depth_tolds[told_length, number] += 1
+            number, place, told = 31, 0, marked(told_length, 8)
+        parts = [("told", list_word(told)), ("depths", list_word(depths)), ("table", list_word(program.table))]
+        self.call(f"depths {n} {told_length} {list_word(depths)}", number, parts)
+        return number, place
 
 
 def in_order(registers):

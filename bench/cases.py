@@ -3,9 +3,11 @@
 from dataclasses import dataclass
 from itertools import chain, product
 
+import depths
 import forgets
 import panel
 import sam
+import teaching
 from calls import ASSEMBLE_TOLD, IMAGE_BYTES, PLACES, REGISTERS, TEXT_BYTES, WRITERS, LentMachine
 from dwells import ADDRESS_CELLS, CHARACTER_CELLS, FLOAT_CELLS, INTEGER_CELLS, KINDS_OF_CELLS, PLAIN_CELLS, any_cell
 from machines import copied, halted, single, stacked
@@ -13,7 +15,7 @@ from programs import CONVERSIONS, FLOAT_EDGES, FTOI_EDGES, INTEGER_EDGES, ITOF_E
 from programs import any_character, any_integer, any_operand, any_pattern, any_program
 from sam.actions import CH, FLOAT, INT, MA, PA
 from sam.image import CODE_WIDTH, COUNT_WIDTH, OPERAND_WIDTH
-from sam.machine import HISTORY_LIMIT, OUTPUT_LIMIT, RUN_LIMIT, cell_place, cell_sound, step_place
+from sam.machine import CELL_LIMIT, HISTORY_LIMIT, OUTPUT_LIMIT, RUN_LIMIT, cell_place, cell_sound, step_place
 from sam.table import KINDS, LAST_CHARACTER, NAMES, NO_OPERAND, PATTERN
 from sources import any_source, corner_sources, every_refusal
 
@@ -872,6 +874,169 @@ def dwell_case(chooser, script):
     lent.dwell(chooser.choice([1] * 20 + [0, 2]))
 
 
+# ---- depth lists
+
+
+def judge(script, key, program, n, listed, told_length=1):
+    """(number, place) of this list, which is counted by what is tried."""
+    script.program(program)
+    answer = script.depths(program, n, listed, told_length)
+    script.depth_lists[(*key, *answer)] += 1
+    return answer
+
+
+def tried_corners(script):
+    """Every instruction with too few values, just enough and more, in machines that are just too small and that are
+    not; what follows it; and the ends of a program."""
+    for text, values, room, program, listed, n in depths.tried_lists():
+        judge(script, ("instruction", text, values, room), program, n, listed)
+    for text, has_depth, program, listed in depths.forbidden_lists():
+        judge(script, ("forbidden", text, has_depth), program, CELL_LIMIT, listed)
+    for text, follower, what, program, listed in depths.followed_lists():
+        judge(script, ("follower", text, follower, what), program, depths.ROOMY, listed)
+    for text, length, has_depth, program, listed in depths.end_lists():
+        judge(script, ("end", text, length, has_depth), program, depths.ROOMY, listed)
+
+
+def deep_corners(script):
+    for text, what, n, program, listed in depths.deep_lists():
+        judge(script, ("deep", text, what, n), program, n, listed)
+
+
+def size_corners(script):
+    """Every N, and lists of every length, by one and by more off."""
+    for n in [*depths.ALLOWED_SIZES, *depths.SMALL_SIZES, *depths.OUTER_SIZES]:
+        judge(script, ("size", n), depths.SIZED, n, depths.SIZED_DEPTHS)
+    for length in depths.PROGRAM_LENGTHS:
+        for count in depths.list_lengths(length):
+            judge(script, ("length", length, count), depths.stops(length), 1, [0] * count)
+
+
+def meeting_corners(script):
+    """Every set of refusals that can meet: the first in the order is given."""
+    for met, program, n, listed, told_length, *expected in chain(depths.meeting_lists(), depths.empty_lists()):
+        answer = judge(script, ("meeting", met), program, n, listed, told_length)
+        assert list(answer) == expected, (met, answer, expected)
+    for program, told_length in product(judged_programs(), [1, *other_tolds(1)]):
+        length = program.length if program.length <= PLACES else 2
+        judge(script, ("table",), program, 1, [0] * length, told_length)
+
+
+def told_corners(script):
+    """Each number of a list with every told."""
+    for met, program, n, listed, told_length, *_ in depths.meeting_lists():
+        if len(met) <= 1 and told_length == 1:
+            for other in other_tolds(1):
+                judge(script, ("told",), program, n, listed, other)
+
+
+def small_corners(script):
+    for program, n, listed in depths.small_lists():
+        judge(script, ("small",), program, n, listed)
+
+
+def check_listed(script, lent, listed, word, number):
+    """ "no run of an accepted program meets 2, 3 or 7. Each place such a run reaches has SP as its listed depth." """
+    registers = lent.state.registers
+    assert number not in (2, 3, 7), (word, number)
+    assert listed[registers.pc] == registers.sp, registers
+    script.listed_calls[word, number] += 1
+
+
+def listed_machine(script, program, listed, n, h, size):
+    """A machine of the N that the list was accepted for, after its reset."""
+    lent = LentMachine(script, program, marked_state(n, n, h, size))
+    assert script.depths(program, n, listed) == (0, 0)
+    check_listed(script, lent, listed, "reset", lent.reset())
+    return lent
+
+
+def play(script, lent, listed, word, *words):
+    number = {"step": lent.step, "run": lent.run, "back": lent.back, "forget": lent.forget}[word](*words)
+    check_listed(script, lent, listed, word, number)
+    return number
+
+
+PLAYED_STEPS = 30  # more than the short programs make
+
+
+def played_corners(script):
+    """Programs with lists by hand, in as few cells as they are accepted for, with a history and without: steps to the
+    end and beyond, a run, all taken back, and made again with some forgotten."""
+    for (source, listed), h in product(depths.PLAYED, (0, 7, 64)):
+        program = depths.program_of(source)
+        lent = listed_machine(script, program, listed, depths.least_size(program, listed), h, 2)
+        for _ in range(PLAYED_STEPS):
+            play(script, lent, listed, "step")
+        play(script, lent, listed, "run", PLAYED_STEPS)
+        while play(script, lent, listed, "back") == 0:
+            pass
+        for word, *words in [("run", 5), ("forget", 1), ("forget", PLAYED_STEPS), ("run", PLAYED_STEPS), ("back",)]:
+            play(script, lent, listed, word, *words)
+
+
+def teaching_corners(script):
+    """The lists beside the published programs, and a run of each."""
+    for name in teaching.LISTED:
+        program, listed = teaching.program_of(name), teaching.depths_of(name)
+        judge(script, ("teaching", name), program, CELL_LIMIT, listed)
+        lent = listed_machine(script, program, listed, CELL_LIMIT, 64, OUTPUT_LIMIT)
+        while play(script, lent, listed, "step") == 0:
+            pass
+        lent = listed_machine(script, program, listed, CELL_LIMIT, 0, OUTPUT_LIMIT)
+        play(script, lent, listed, "run", RUN_LIMIT)
+    program = teaching.program_of("complaint")
+    judge(script, ("teaching", "complaint"), program, CELL_LIMIT, list(range(program.length)))
+
+
+def depth_corners(script):
+    for corners in (tried_corners, deep_corners, size_corners, meeting_corners, told_corners, small_corners,
+                    played_corners, teaching_corners):  # fmt: skip
+        corners(script)
+
+
+def damaged_depths(chooser, program, listed, n):
+    """(What was damaged, program, N, list)."""
+    what = chooser.choice([*depths.DAMAGES, *depths.DAMAGES, "moved", "length", "N smaller", "N larger", "table"])
+    if what in depths.DAMAGES:
+        return what, program, n, depths.damaged_at(chooser, listed, n, what)
+    if what == "moved":
+        return what, program, n, depths.moved(chooser, listed)
+    if what == "length":
+        return what, program, n, depths.any_length(chooser, listed)
+    if what == "N smaller":
+        return what, program, chooser.choice([n - 1, n - 1, chooser.randrange(n)]), listed
+    if what == "N larger":
+        return what, program, n + chooser.choice([1, chooser.randrange(1, CELL_LIMIT)]), listed
+    return what, damaged_program(chooser, program), n, listed
+
+
+def play_any(chooser, script, program, listed, n):
+    """Steps, runs, step-backs and forgets from a reset."""
+    h = chooser.choice([0, chooser.randrange(1, 12), chooser.randrange(12, 200)])
+    lent = listed_machine(script, program, listed, n, h, chooser.choice([0, 2, OUTPUT_LIMIT]))
+    for _ in range(chooser.randrange(4, 20)):
+        kept = lent.state.registers.kept
+        words = [("step",), ("step",), ("run", chooser.randrange(1, 8)), ("run", 200), ("back",),
+                 ("forget", forgets.any_number(chooser, kept))]  # fmt: skip
+        play(script, lent, listed, *chooser.choice(words))
+
+
+def depth_case(chooser, script):
+    """A right list, accepted for the least N and above; damaged in every way; and played."""
+    program, listed = depths.full_pair(chooser) if chooser.randrange(100) == 0 else depths.any_pair(chooser)
+    least = depths.least_size(program, listed)
+    n = chooser.choice([least, least, min(least + 1, CELL_LIMIT), CELL_LIMIT])
+    assert judge(script, ("right", program.length == PLACES), program, n, listed) == (0, 0)
+    for _ in range(4):
+        what, *damaged = damaged_depths(chooser, program, listed, n)
+        number, _ = judge(script, ("damage", what), *damaged, any_told(chooser))
+        script.damaged_lists[what, number] += 1
+    play_any(chooser, script, program, listed, n)
+    program = made_program(chooser)  # with any instruction at all
+    judge(script, ("any",), program, n, [depths.any_depth(chooser, n) for _ in range(program.length)])
+
+
 # ---- one instruction at a time
 
 # Instructions that do another thing with another tag: how many values each takes, and the edges it is tried with.
@@ -1053,6 +1218,7 @@ CORNERS = {
     "broken": broken_corners,
     "forget": forget_corners,
     "dwell": dwell_corners,
+    "depths": depth_corners,
     "instruction": instruction_corners,
     "plain": plain_corners,
 }
@@ -1067,5 +1233,6 @@ FAMILIES = {
     "broken": (broken_case, 5),
     "forget": (forget_case, 3),
     "dwell": (dwell_case, 6),
+    "depths": (depth_case, 3),
     "plain": (plain_case, 4),
 }

@@ -10,8 +10,9 @@ request e speaks of was never made, a step or a run was never refused at such a 
 a code at the end of the codes was never read, a dwell that request f speaks of was never read or never refused, a kept
 number that request g speaks of was never given to a call or its steps never all taken back, an output, a character, a
 record or a WRITECH that request h speaks of was never met, a forget that request i speaks of was never made or never
-refused or the room it gained never used, or a told or registers of another length were never given to a call that would
-be done or refused besides.
+refused or the room it gained never used, a depth list that request j speaks of was never accepted or never refused or a
+program with a list never played, or a told or registers of another length were never given to a call that would be done
+or refused besides.
 """
 
 import argparse
@@ -20,11 +21,13 @@ import shlex
 import subprocess
 import sys
 from collections import Counter
-from itertools import permutations, product
+from itertools import combinations, permutations, product
 
+import depths
 import forgets
 import panel
 import sam
+import teaching
 from calls import REGISTERS, Script
 from cases import ALLOWED_KEPT, ALLOWED_SIZES, BROKEN_KEPT, CALLS, CORNERS, FAMILIES, OTHER_LENGTHS, REFUSED_SIZES
 from cases import DOUBLE_WORD, other_tolds, wrong_tolds
@@ -37,7 +40,7 @@ from sam.machine import OUTPUT_LIMIT, RUN_LIMIT
 from sam.table import WORD
 from sources import any_source, every_refusal
 
-ALL_NUMBERS = [*range(0, 13), 14, *range(21, 32), 33, *range(41, 46), 50, *range(60, 64)]
+ALL_NUMBERS = [*range(0, 13), 14, *range(21, 32), 33, *range(41, 46), 50, *range(60, 67)]
 FAULTS = [*range(22, 31), 33]  # refusals of a source that have a line
 FLOAT_TESTS = [  # what request b changed
     *[("EQUAL", ((FLOAT, zero), (FLOAT, other)), 0) for zero, other in permutations(ZEROS)],
@@ -132,6 +135,45 @@ AFTER_FORGETS = {
 }
 # Sign of the places free after a forget less those that a step needs, where it met 8 before, and its number.
 ROOM_GAINED = {"step": [(-1, 8), (0, 0), (1, 0)], "run": [(-1, 8), (0, 50), (1, 50)]}
+# What request j added: instructions that need no value, so that none are too few for them.
+NEEDLESS = [
+    "STOP", "PUSHIMM", "PUSHIMMF", "PUSHSP", "PUSHFBR", "LINK", "PUSHOFF", "JUMP", "PUSHIMMPA", "PUSHIMMCH",
+]  # fmt: skip
+# An instruction where nothing leads to, its depth, and the number with every N: its depth after is below N or is not.
+DEEP = [
+    *[("STOP", depth, number) for depth, number in [("N-1", 0), ("N", 66), ("N+1", 66), ("65533", 66), ("65534", 66)]],
+    *[("JUMP 2", depth, number) for depth, number in [("N-1", 0), ("N", 66), ("65534", 66)]],
+    *[("JUMPC 2", depth, number) for depth, number in [("N", 0), ("N+1", 66), ("65534", 66)]],
+    *[("WRITECH", depth, number) for depth, number in [("N", 0), ("N+1", 66), ("65534", 66)]],
+    *[("PUSHIMM 1", depth, 66) for depth in ("N-1", "N", "65533", "65534")],  # 65,534 and 65,535 after
+    *[("ADDSP -1", depth, number) for depth, number in [("N", 0), ("N+1", 66), ("65534", 66)]],
+    *[("ADDSP -999", depth, number) for depth, number in [("N+998", 0), ("N+999", 66), ("65534", 66)]],
+    *[("ADDSP 1", depth, 66) for depth in ("N-1", "N", "65534")],
+    *[("ADDSP 2", "65534", 66), ("ADDSP 3", "65533", 66), ("ADDSP 3", "65534", 66)],  # 0, 0 and 1 in sixteen bits
+    *[("ADDSP 999", depth, 66) for depth in ("N-1", "65533", "65534")],
+]
+# What was damaged in a list that was right, and the numbers it led to.
+DAMAGED = {
+    "one more": [66],
+    "one less": [66],
+    "N-1": [66, 0],
+    "N": [66],
+    "deepest": [66],
+    "not reached": [66, 0],
+    "moved": [66, 0],
+    "length": [64],
+    "N smaller": [66, 11],
+    "N larger": [0, 11],
+    "table": [10],
+}
+# A call on a machine whose program has a list, and its numbers: all there are but 2, 3 and 7.
+LISTED_CALLS = {
+    "reset": [0],
+    "step": [0, 1, 4, 5, 6, 8, 12],
+    "run": [0, 4, 5, 6, 8, 12, 50],
+    "back": [0, 9],
+    "forget": [0, 14],
+}
 CUT = 400  # characters of a line that a difference shows
 
 
@@ -424,12 +466,99 @@ def reset_tests():
     yield from ((REGISTERS, *sizes, 0) for sizes in ALLOWED_SIZES)
 
 
+def instruction_lists():
+    """An instruction at place 1: "enough values for its instruction, its depth after is below N"; a forbidden one is 65
+    there, with a depth or without."""
+    for text in depths.TRIED:
+        name, *operand = text.split()
+        if name not in NEEDLESS and not (name == "ADDSP" and int(*operand) >= 0):
+            yield "instruction", text, depths.FEW, depths.ROOM, 66, 1
+            yield "instruction", text, depths.FEW, depths.WIDE, 66, 1
+        yield "instruction", text, depths.ENOUGH, depths.ROOM, 0, 0
+        yield "instruction", text, depths.ENOUGH, depths.WIDE, 0, 0
+        yield "instruction", text, depths.MORE, depths.FULL, 66, 1
+    for text, has_depth in product(depths.TRIED_FORBIDDEN, (False, True)):
+        yield "forbidden", text, has_depth, 65, 1
+
+
+def wrong_follower(text, follower):
+    """ "each place that may follow has that same depth": 66 at place 2 for each other that a follower has, or at the
+    follower where it is before and fails by itself; where place 2 is not reached nothing is asked of it."""
+    for what in ("one more", "one less", "zero", "N-1", "N", "deepest", "not reached"):
+        fails = what in ("N", "deepest")
+        yield "follower", text, follower, what, 66, min(follower, depths.AT) if fails else depths.AT
+        yield "follower", text, follower, "unasked " + what, *((66, follower) if fails else (0, 0))
+
+
+def follower_lists():
+    """Of four values where nothing leads to: place 0, the place itself, where a JUMP stays and a JUMPC takes one off,
+    the places around, and the end."""
+    for text in depths.FOLLOWED:
+        yield "follower", text, None, "right", 0, 0
+        if text != "STOP":
+            yield from wrong_follower(text, depths.AT + 1)
+    for name, target in product(depths.JUMPS, (1, 3, 4)):
+        yield "follower", f"{name} {target}", None, "right", 0, 0
+        yield from wrong_follower(f"{name} {target}", target)
+    for target in (1, 4):
+        yield from wrong_follower(f"JUMPC {target}", depths.AT + 1)  # the other way
+    yield "follower", "JUMP 2", None, "right", 0, 0
+    for text in ("JUMPC 2", "JUMP 0", "JUMPC 0", "JUMP 5", "JUMPC 5"):
+        yield "follower", text, None, "right", 66, depths.AT
+
+
+def end_lists():
+    """ "the program's end may never follow" """
+    for length in depths.END_LENGTHS:
+        last = length - 1
+        ends = [text for text in depths.FOLLOWED if text != "STOP"] + ["JUMPC 1", f"JUMP {length}"]
+        yield from (("end", text, length, True, 66, last) for text in ends)
+        yield from (("end", text, length, False, 0, 0) for text in [*ends, "STOP", f"JUMP {last}"])
+        yield from (("end", text, length, True, 0, 0) for text in ("STOP", f"JUMP {last}"))
+
+
+def deep_lists():
+    for (text, depth, number), n in product(DEEP, depths.DEEP_SIZES):
+        yield "deep", text, depth, n, number, 1 if number else 0
+
+
+def size_lists():
+    """N, and lengths of a list for so many STOPs."""
+    yield from (("size", n, 0, 0) for n in depths.ALLOWED_SIZES)
+    yield from (("size", n, 66, place) for n, place in depths.SMALL_SIZES.items())
+    yield from (("size", n, 11, 0) for n in depths.OUTER_SIZES)
+    for length in depths.PROGRAM_LENGTHS:
+        yield "length", length, length, 0 if length else 66, 0
+        others = [length + 1, length + 256, *[length - 1, 0] * (length > 0)]
+        yield from (("length", length, count, 64, 0) for count in others)
+
+
+def meeting_lists():
+    """(Refusals met, number, place) of every set of them: the first in the order, 65 and 66 at each place where the
+    cases have one."""
+    for count in range(len(depths.ORDER) + 1):
+        for met in combinations(depths.ORDER, count):
+            number = met[0] if met else 0
+            for place in {65: (3, 4), 66: (0, 1, 4)}.get(number, (0,)):
+                yield "meeting", met, number, place
+
+
+def depth_tests():
+    """(What is tried, .., number, place) of a depth list."""
+    for tests in (instruction_lists, follower_lists, end_lists, deep_lists, size_lists, meeting_lists):
+        yield from tests()
+    yield from (("teaching", name, 0, 0) for name in teaching.LISTED)
+    yield "teaching", "complaint", 66, 2
+    yield from (("right", is_full, 0, 0) for is_full in (False, True))
+    yield from (("small", *answer) for answer in [(0, 0), *product((65, 66), (0, 1, 2))])
+
+
 def all_met(script):
     """Whether the cases led to every number, to every fault of a source in its first line and in a later one, to every
     test of FLOATs, sum and conversion by the proved step and by the direct run, to sums and conversions refused with
     and without a history, to every kind of decimal, to the last codes, to every dwell, to every kept number, to every
-    output, character, record and WRITECH that request h speaks of, to every forget and its room, and to a told and
-    registers of another length wherever they are refused."""
+    output, character, record and WRITECH that request h speaks of, to every forget and its room, to every depth list
+    and every call with one, and to a told and registers of another length wherever they are refused."""
     lines = product(FAULTS, (1, 2))
     single_tests = [*FLOAT_TESTS, *sum_tests(), *CONVERSION_TESTS, *CHARACTER_TESTS]
     tests = [(word, *test) for word in ("step", "plain") for test in single_tests]
@@ -438,6 +567,9 @@ def all_met(script):
     codes = [(word, *code) for word, code in product(("unpack", "plain_unpack"), LAST_CODES)]
     after_forgets = [("forget", word, number) for word, numbers in AFTER_FORGETS.items() for number in numbers]
     room = [(word, *gained) for word, all_gained in ROOM_GAINED.items() for gained in all_gained]
+    damaged = [(what, number) for what, numbers in DAMAGED.items() for number in numbers]
+    listed_calls = [(word, number) for word, numbers in LISTED_CALLS.items() for number in numbers]
+    depth_tolds = product(other_tolds(1), (0, *depths.ORDER[1:]))
     complete = [
         all_in(script.numbers, ALL_NUMBERS, "never given back"),
         all_in(script.fault_lines, lines, "faults never in the first line (1) or never in a later one (2)"),
@@ -467,6 +599,10 @@ def all_met(script):
         all_in(script.calls_after, after_forgets, "calls (left by, call, number) never made on what a forget left"),
         all_in(script.fills, fill_tests(), "histories (source, H, how often, number) never filled again"),
         all_in(script.room_gained, room, "room (call, sign of free less needed, number) never gained"),
+        all_in(script.depth_lists, depth_tests(), "depth lists (what is tried, .., number, place) never judged"),
+        all_in(script.damaged_lists, damaged, "depth lists (damage, number) never judged"),
+        all_in(script.listed_calls, listed_calls, "calls (call, number) never made with a depth list"),
+        all_in(script.depth_tolds, depth_tolds, "depth lists (told's length, number of the list) never refused"),
         all_in(script.wrong_tolds, told_tests(), "writers (told's, output's length, number of input) never refused"),
         all_in(script.register_lengths, length_tests(), "calls (number with nine, length, number) never refused"),
         all_in(script.resets, reset_tests(), "resets (registers, cells, tags, history, output, number) never made"),

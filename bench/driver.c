@@ -47,6 +47,7 @@ static void check_guards(const struct lent *lent, const char *name) {
 static uint64_t get(const struct lent *lent, size_t index) {
     switch (lent->width) {
     case 1: return ((const uint8_t *)data(lent))[index];
+    case 2: return ((const uint16_t *)data(lent))[index];
     case 4: return ((const uint32_t *)data(lent))[index];
     default: return ((const uint64_t *)data(lent))[index];
     }
@@ -55,6 +56,7 @@ static uint64_t get(const struct lent *lent, size_t index) {
 static void set(const struct lent *lent, size_t index, uint64_t value) {
     switch (lent->width) {
     case 1: ((uint8_t *)data(lent))[index] = (uint8_t)value; break;
+    case 2: ((uint16_t *)data(lent))[index] = (uint16_t)value; break;
     case 4: ((uint32_t *)data(lent))[index] = (uint32_t)value; break;
     default: ((uint64_t *)data(lent))[index] = value; break;
     }
@@ -128,7 +130,7 @@ static void print_bytes(const char *name, const struct lent *lent) {
 
 static struct lent source = {.width = 1}, written = {.width = 1}, told = {.width = 8};
 static struct lent table = {.width = 8}, registers = {.width = 8}, history = {.width = 8};
-static struct lent bits = {.width = 4}, tags = {.width = 1}, output = {.width = 1};
+static struct lent bits = {.width = 4}, tags = {.width = 1}, output = {.width = 1}, depths = {.width = 2};
 static uint64_t length;
 
 static void print_end(void) {
@@ -207,6 +209,19 @@ static void call_dwell(void) {
                             output.count, data(&told), told.count));
 }
 
+static void call_depths(void) {
+    uint64_t n = read_number();
+    lend(&told, read_number());
+    read_list(&depths);
+    printf("%" PRIu32, sam_depths(data(&table), table.count, length, n, data(&depths), depths.count, data(&told),
+                                  told.count));
+    print_list("told", &told);
+    print_list("depths", &depths);
+    print_list("table", &table);
+    check_guards(&depths, "depths");
+    print_end();
+}
+
 static void obey(const char *word) {
     if (strcmp(word, "assemble") == 0) call_reading(sam_assemble);
     else if (strcmp(word, "unpack") == 0) call_reading(sam_unpack);
@@ -224,6 +239,7 @@ static void obey(const char *word) {
     else if (strcmp(word, "forget") == 0) call_forget();
     else if (strcmp(word, "run") == 0) call_run(sam_run);
     else if (strcmp(word, "dwell") == 0) call_dwell();
+    else if (strcmp(word, "depths") == 0) call_depths();
     else if (strcmp(word, "plain") == 0) call_run(plain_run);
     else if (strcmp(word, "plain_pack") == 0) call_writing(plain_pack);
     else if (strcmp(word, "plain_unpack") == 0) call_reading(plain_unpack);
@@ -231,7 +247,7 @@ static void obey(const char *word) {
 }
 
 int main(void) {
-    struct lent *all[] = {&source, &written, &told, &table, &registers, &history, &bits, &tags, &output};
+    struct lent *all[] = {&source, &written, &told, &table, &registers, &history, &bits, &tags, &output, &depths};
     for (size_t i = 0; i < sizeof all / sizeof all[0]; i++) lend(all[i], 0);
     char *line = NULL;
     size_t room = 0;

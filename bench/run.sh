@@ -28,6 +28,7 @@ python3 bench/teaching.py --sources >"$out/teaching.stdin"
 cmp "$out/teaching.stdin" crates/teaching/stdin
 cmp "$out/teaching.stdout" crates/teaching/stdout
 echo "bench: crates/teaching runs the programs of bench/teaching, and its stdout is what bench/teaching.py prints"
+echo "bench: the depth lists beside them are accepted, and every state of their runs is as listed"
 
 echo "bench: the C library's own test"
 $CC $FLAGS -Iinclude bench/test_sam_c.c "$library" -o "$out/test_sam_c"

@@ -29,6 +29,7 @@ static uint64_t table[SAM_TABLE_PLACES], length, told[SAM_ASSEMBLE_TOLD];
 static uint64_t registers[SAM_REGISTERS], history[SAM_HISTORY_LIMIT];
 static uint32_t bits[SAM_CELL_LIMIT];
 static uint8_t tags[SAM_CELL_LIMIT], output[SAM_OUTPUT_LIMIT];
+static uint16_t depths[SAM_TABLE_PLACES];
 
 static uint32_t number; /* what the last call gave */
 
@@ -72,6 +73,10 @@ static void dwell(void) {
                        SAM_CELL_LIMIT, history, SAM_HISTORY_LIMIT, output, SAM_OUTPUT_LIMIT, told, 1);
 }
 
+static void judge(void) {
+    number = sam_depths(table, SAM_TABLE_PLACES, length, SAM_CELL_LIMIT, depths, length, told, 1);
+}
+
 /* A packer with a copy of the image, to see that the measurement finds it. */
 static void pack_by_a_copy(void) {
     uint8_t copy[SAM_IMAGE_BYTES];
@@ -106,6 +111,45 @@ static void halt_at(const struct cell *cell) {
     bits[0] = cell->value;
 }
 
+/* The depths of those sixteen instructions, also where nothing leads to them. */
+static void list_depths(void) {
+    static const uint16_t sixteen[] = {0, 1, 1, 2, 2, 2, 3, 0, 0, 1, 0, 1, 1, 1, 2, 0};
+    for (size_t i = 0; i < SAM_TABLE_PLACES; i++) depths[i] = sixteen[i % 16];
+}
+
+enum { LAST = SAM_TABLE_PLACES - 1 };
+enum { POPSP = 35, JUMP = 44, JUMPC = 45, JUMPIND = 46, JSR = 47, JSRIND = 48, CODES = 54 };
+
+static uint64_t place_of(uint64_t code, uint64_t operand) { return code << 32 | operand; }
+
+static void forbid_last(void) { table[LAST] = place_of(JSRIND, 0); }
+
+static void end_at_last(void) { table[LAST] = place_of(JUMP, SAM_TABLE_PLACES); }
+
+static void break_last(void) { table[LAST] = place_of(CODES, 0); }
+
+/* By how much each code moves SP. */
+static const signed char MOVES[CODES] = {
+    0, 1, 1, 1, 0, -1, -1, -1, -1, -1, -1, -1, -1, -1, -1, -1, -1, -1, -1, 0, -1, -1, -1, -1, -1, 0, -1,
+    -1, -1, -1, -1, 0, 0, 0, 1, 0, 1, -1, 1, 0, 0, -2, 1, -1, 0, -1, 0, 0, 0, 1, 0, 0, 1, -1,
+};
+
+static bool is_forbidden(uint64_t code) { return code == POPSP || code == JUMPIND || code == JSR || code == JSRIND; }
+
+/* Every instruction in turn at depth 5, with a STOP behind it; a JUMP goes to itself, a JUMPC to that STOP. */
+static void list_every_instruction(void) {
+    memset(table, 0, sizeof table);
+    memset(depths, 0, sizeof depths);
+    uint64_t code = 0;
+    for (size_t i = 1; i + 1 < SAM_TABLE_PLACES; i += 2) {
+        while (is_forbidden(code)) code = (code + 1) % CODES;
+        table[i] = place_of(code, code == JUMP ? i : code == JUMPC ? i + 1 : 0);
+        depths[i] = 5;
+        depths[i + 1] = (uint16_t)(5 + MOVES[code]);
+        code = (code + 1) % CODES;
+    }
+}
+
 /* What a call is measured with. */
 struct row {
     const char *name;
@@ -114,6 +158,7 @@ struct row {
     const struct cell *cell; /* where the machine is halted, or none */
     size_t most;             /* bytes, by sam.h */
     uint32_t empty, full;    /* the numbers that the call gives */
+    void (*change)(void);    /* of the long program and its list, or none */
 };
 
 /* A program, its image, and a machine as the row has it. */
@@ -128,6 +173,8 @@ static void prepare(bool is_full, const struct row *row) {
     reset();
     for (int i = 0; i < row->steps; i++) step();
     if (row->cell != NULL) halt_at(row->cell);
+    list_depths();
+    if (is_full && row->change != NULL) row->change();
 }
 
 /* ---- the painted stack */
@@ -184,25 +231,30 @@ static size_t used(bool is_full, const struct row *row) {
 /* ---- the table */
 
 static const struct row ROWS[] = {
-    {"assemble", assemble, 0, NULL, SAM_ASSEMBLE_STACK, 0, 0},
-    {"list", list, 0, NULL, SAM_LIST_STACK, 0, 0},
-    {"pack", pack, 0, NULL, SAM_PACK_STACK, 0, 0},
-    {"unpack", unpack, 0, NULL, SAM_UNPACK_STACK, 0, 0},
-    {"reset", reset, TO_WRITECH + 1, NULL, SAM_RESET_STACK, 0, 0},
-    {"step ITOF", step, TO_ITOF, NULL, SAM_STEP_STACK, 2, 0},
-    {"step WRITECH", step, TO_WRITECH, NULL, SAM_STEP_STACK, 2, 0},
-    {"back ITOF", step_back, TO_ITOF + 1, NULL, SAM_STEP_BACK_STACK, 9, 0},
-    {"back WRITECH", step_back, TO_WRITECH + 1, NULL, SAM_STEP_BACK_STACK, 9, 0},
-    {"forget", forget, TO_WRITECH + 1, NULL, SAM_FORGET_STACK, 14, 0},
-    {"run", run, 0, NULL, SAM_RUN_STACK, 2, 50},
-    {"dwell INT", dwell, 1, &TENTHS, SAM_DWELL_STACK, 0, 0},
-    {"dwell FLOAT", dwell, 1, &SECONDS, SAM_DWELL_STACK, 0, 0},
-    {"dwell least", dwell, 1, &LEAST, SAM_DWELL_STACK, 0, 0},
-    {"dwell most", dwell, 1, &GREATEST, SAM_DWELL_STACK, 0, 0},
+    {"assemble", assemble, 0, NULL, SAM_ASSEMBLE_STACK, 0, 0, NULL},
+    {"list", list, 0, NULL, SAM_LIST_STACK, 0, 0, NULL},
+    {"pack", pack, 0, NULL, SAM_PACK_STACK, 0, 0, NULL},
+    {"unpack", unpack, 0, NULL, SAM_UNPACK_STACK, 0, 0, NULL},
+    {"reset", reset, TO_WRITECH + 1, NULL, SAM_RESET_STACK, 0, 0, NULL},
+    {"step ITOF", step, TO_ITOF, NULL, SAM_STEP_STACK, 2, 0, NULL},
+    {"step WRITECH", step, TO_WRITECH, NULL, SAM_STEP_STACK, 2, 0, NULL},
+    {"back ITOF", step_back, TO_ITOF + 1, NULL, SAM_STEP_BACK_STACK, 9, 0, NULL},
+    {"back WRITECH", step_back, TO_WRITECH + 1, NULL, SAM_STEP_BACK_STACK, 9, 0, NULL},
+    {"forget", forget, TO_WRITECH + 1, NULL, SAM_FORGET_STACK, 14, 0, NULL},
+    {"run", run, 0, NULL, SAM_RUN_STACK, 2, 50, NULL},
+    {"dwell INT", dwell, 1, &TENTHS, SAM_DWELL_STACK, 0, 0, NULL},
+    {"dwell FLOAT", dwell, 1, &SECONDS, SAM_DWELL_STACK, 0, 0, NULL},
+    {"dwell least", dwell, 1, &LEAST, SAM_DWELL_STACK, 0, 0, NULL},
+    {"dwell most", dwell, 1, &GREATEST, SAM_DWELL_STACK, 0, 0, NULL},
+    {"depths", judge, 0, NULL, SAM_DEPTHS_STACK, 66, 0, NULL},
+    {"depths every", judge, 0, NULL, SAM_DEPTHS_STACK, 66, 0, list_every_instruction},
+    {"depths 66", judge, 0, NULL, SAM_DEPTHS_STACK, 66, 66, end_at_last},
+    {"depths 65", judge, 0, NULL, SAM_DEPTHS_STACK, 66, 65, forbid_last},
+    {"depths 10", judge, 0, NULL, SAM_DEPTHS_STACK, 66, 10, break_last},
 };
 
 /* What request c forbids. */
-static const struct row COPY = {"copy", pack_by_a_copy, 0, NULL, SAM_IMAGE_BYTES, 0, 0};
+static const struct row COPY = {"copy", pack_by_a_copy, 0, NULL, SAM_IMAGE_BYTES, 0, 0, NULL};
 
 /* The bytes of a call, which must give this number. */
 static size_t measured(const struct row *row, bool is_full, uint32_t expected) {

@@ -1,5 +1,5 @@
 #!/usr/bin/env python3
-"""Tests of the interpreter in sam/: the twelve P examples of document 01, its sentences, requests a, b and d to i, and
+"""Tests of the interpreter in sam/: the twelve P examples of document 01, its sentences, requests a, b and d to j, and
 the settled readings.
 
 Every expected value is read off the documents or worked out by hand; none is copied from an output.
@@ -9,20 +9,25 @@ import ctypes
 import random
 import struct
 import unittest
+from collections import Counter
 from dataclasses import fields, replace
 from fractions import Fraction
 from itertools import product
 
 import decimals
+import depth_list
+import depths as depth_cases
 import programs
 import sam
 from sam import floats
 from sam.actions import CH, FLOAT, INT, MA, PA
 from sam.machine import plain_step
+from sam.table import NAMES
 
 PLACES = 1024
 WORD = 1 << 32
 DOUBLE_WORD = 1 << 64
+NOT_REACHED = 65535  # the mark of a depth list
 
 
 def assembled(text):
@@ -2625,6 +2630,419 @@ class Forget(unittest.TestCase):
             while self.check_back(made, state, net_steps, forgotten):
                 net_steps -= 1
             self.check_demand(made, state, h, net_steps, forgotten)
+
+
+class DepthList(unittest.TestCase):
+    """Request j. Each list and each answer is worked out by hand from its sentences."""
+
+    # Values needed, the change of SP, and the instructions, with operands: "ADDSP -n needs n".
+    NEEDS = [
+        (0, 0, "STOP", "ADDSP 0"),
+        (0, 1, "PUSHIMM 7", "PUSHIMMF 2.5", "PUSHIMMCH 76", "PUSHIMMPA 0", "PUSHSP", "PUSHFBR", "LINK"),
+        (0, 1, "PUSHOFF 0", "PUSHOFF -999", "PUSHOFF 999", "ADDSP 1"),
+        (0, 999, "ADDSP 999"),
+        (1, 1, "DUP"),
+        (2, 0, "SWAP"),
+        (2, -1, "ADD", "SUB", "TIMES", "DIV", "MOD", "ADDF", "SUBF", "TIMESF", "DIVF"),
+        (2, -1, "AND", "OR", "NAND", "NOR", "XOR", "BITAND", "BITOR", "BITNAND", "BITNOR", "BITXOR"),
+        (2, -1, "CMP", "CMPF", "GREATER", "LESS", "EQUAL"),
+        (1, 0, "NOT", "BITNOT", "ISNIL", "ISPOS", "ISNEG", "ITOF", "FTOI", "PUSHIND"),
+        (1, -1, "POPFBR", "WRITECH", "STOREOFF 0", "STOREOFF -999", "STOREOFF 999", "ADDSP -1"),
+        (2, -2, "STOREIND", "ADDSP -2"),
+        (999, -999, "ADDSP -999"),
+        (0, 0, "JUMP 2"),
+        (1, -1, "JUMPC 2"),
+    ]
+    FORBIDDEN = ["JSR 0", "JSR 2", "JSRIND", "JUMPIND", "POPSP"]
+
+    def check(self, text, depths, number, place=0, n=16):
+        made = program(text)
+        table, listed = list(made.table), list(depths)
+        self.assertEqual(sam.check_depths(made, n, listed), (number, place), (text, depths, n))
+        self.assertEqual((made.table, listed), (table, list(depths)))
+
+    def accepted(self, text, depths, n=16):
+        self.check(text, depths, 0, 0, n)
+
+    def instructions(self):
+        for needed, change, *texts in self.NEEDS:
+            for text in texts:
+                yield text, needed, change
+
+    def test_every_instruction_is_here(self):
+        names = {text.split()[0] for text, _, _ in self.instructions()}
+        self.assertEqual(len(names), 50)
+        self.assertEqual(names | {text.split()[0] for text in self.FORBIDDEN}, set(NAMES))
+
+    # ---- "place 0 has depth 0"
+
+    def test_place_zero(self):
+        self.accepted("STOP", [0])
+        for depth in (1, 2, 15, 16, 65534, NOT_REACHED):
+            self.check("STOP", [depth], 66, 0)
+            self.check("JUMP 0", [depth], 66, 0)
+            self.check("STOP STOP", [depth, 0], 66, 0)
+            self.check("ADDSP -1 STOP", [depth, depth - 1], 66, 0)
+        self.check("STOP ADD STOP", [NOT_REACHED, 1, 0], 66, 0)  # before the rule of place 1
+
+    # ---- "every place with a depth has enough values for its instruction"
+
+    def test_values(self):
+        """Where nothing leads to, behind a STOP; what follows has the depth after."""
+        for text, needed, change in self.instructions():
+            for depth in {needed, needed + 1, needed + 2, 999 - max(change, 0)}:
+                if depth + change < 1000:
+                    self.accepted(f"STOP {text} ADDSP 0 STOP", [0, depth, depth + change, depth + change], 1000)
+            for depth in {0, max(needed - 2, 0), needed - 1} if needed else ():
+                self.check(f"STOP {text} STOP", [0, depth, max(depth + change, 0)], 66, 1, 1000)
+
+    def test_values_at_the_start(self):
+        for text, needed, change in self.instructions():
+            if needed:
+                self.check(f"{text} STOP STOP", [0, 0, 0], 66, 0, 1000)
+            else:
+                self.accepted(f"{text} STOP STOP", [0, change, change], 1000)
+
+    def test_sums_do_not_go_round(self):
+        """At depth 65,534, or with too few values, by sixteen bits the depth after would be small."""
+        for text, depth, after in [("ADDSP 2", 65534, 0), ("ADDSP 3", 65533, 0), ("ADDSP 999", 65534, 997),
+                                   ("ADDSP 1", 65534, NOT_REACHED), ("PUSHIMM 1", 65534, NOT_REACHED),
+                                   ("DUP", 65534, NOT_REACHED), ("ADDSP -2", 1, 65534 + 1), ("ADD", 0, 65535),
+                                   ("ADDSP -999", 998, 65535), ("ADDSP -999", 0, 65536 - 999),
+                                   ("STOREIND", 0, 65534)]:  # fmt: skip
+            self.check(f"STOP {text} JUMP 2", [0, depth, after], 66, 1, 1000)
+
+    # ---- "its depth after is below N"
+
+    def test_room(self):
+        """N is one more than the depth after, then no more than it."""
+        for text, needed, change in self.instructions():
+            depth = needed + 1 if needed + change == 0 else needed
+            after = depth + change
+            down = f"STOP {text} ADDSP -{after} STOP"  # what follows has room
+            self.accepted(down, [0, depth, after, 0], after + 1)
+            self.check(down, [0, depth, after, 0], 66, 1, after)
+
+    def test_room_counts_after(self):
+        """A place may have more values than there are cells, if nothing leads to it and its instruction takes them."""
+        self.accepted("STOP WRITECH STOP", [0, 4, 3], 4)
+        self.check("STOP WRITECH STOP", [0, 5, 4], 66, 1, 4)
+        self.accepted("STOP STOREIND STOP", [0, 5, 3], 4)
+        self.check("STOP STOREIND STOP", [0, 6, 4], 66, 1, 4)
+        self.accepted("STOP JUMPC 2 STOP", [0, 1, 0], 1)
+        self.accepted("STOP ADDSP -999 STOP", [0, 1998, 999], 1000)
+        self.check("STOP ADDSP -999 STOP", [0, 1999, 1000], 66, 1, 1000)
+        self.check("STOP ADDSP -999 STOP", [0, 65534, 64535], 66, 1, 1000)
+
+    def test_depths_around_n(self):
+        for n in (1, 2, 16, 999, 1000):
+            for text in ("STOP JUMP 0", "JUMP 1 JUMP 0", "ADDSP 0 JUMP 1"):
+                for depth, number in [(n - 1, 0), (n, 66), (n + 1, 66), (65533, 66), (65534, 66)]:
+                    behind = depth if text.startswith("ADDSP") else 0
+                    self.check(f"STOP {text}", [0, depth, behind], number, 1 if number else 0, n)
+
+    def test_stop(self):
+        """ "STOP has no follower", so what stands behind it may have any depth; its depth after is its own."""
+        for depth in (0, 1, 15, NOT_REACHED):
+            self.accepted("STOP STOP", [0, depth])
+        self.accepted("STOP DUP JUMP 0", [0, NOT_REACHED, 0])
+        self.check("STOP STOP", [0, 16], 66, 1)
+        self.check("STOP STOP", [0, 1], 66, 1, 1)
+        self.accepted("STOP STOP", [0, 0], 1)
+
+    def test_smallest_machines(self):
+        """P7: one push needs two cells."""
+        self.check("PUSHIMM 1 STOP", [0, 1], 66, 0, 1)
+        self.accepted("PUSHIMM 1 STOP", [0, 1], 2)
+        self.check("PUSHIMM 1 PUSHIMM 1 STOP", [0, 1, 2], 66, 1, 2)
+        self.accepted("PUSHIMM 1 PUSHIMM 1 STOP", [0, 1, 2], 3)
+        self.check("ADDSP 999 STOP", [0, 999], 66, 0, 999)
+        self.accepted("ADDSP 999 STOP", [0, 999], 1000)
+
+    # ---- "each place that may follow has that same depth"
+
+    def test_next_place(self):
+        for text, needed, change in self.instructions():
+            if text == "STOP" or text.startswith("JUMP") or needed > 2 or change > 2:
+                continue
+            for wrong in (4 + change + 1, 4 + change - 1, 0 if 4 + change else 1, 15, 16, 65534, NOT_REACHED):
+                self.check(f"STOP {text} STOP STOP", [0, 4, wrong, 0], 66, 1)
+            if change:
+                self.check(f"STOP {text} STOP STOP", [0, 4, 4, 0], 66, 1)  # the depth before
+            self.accepted(f"STOP {text} STOP STOP", [0, 4, 4 + change, 0])
+            self.accepted(f"STOP {text} STOP STOP", [0, NOT_REACHED, 7, 0])  # a place "not reached" has no rule
+
+    def test_jump(self):
+        """Its target alone follows."""
+        self.accepted("JUMP 2 STOP STOP", [0, NOT_REACHED, 0])
+        self.accepted("JUMP 2 STOP STOP", [0, 9, 0])
+        self.check("JUMP 2 STOP STOP", [0, 0, NOT_REACHED], 66, 0)
+        self.check("JUMP 2 STOP STOP", [0, 0, 1], 66, 0)
+        self.accepted("JUMP 0", [0])
+        self.accepted("PUSHIMM 1 JUMP 1", [0, 1])
+        self.check("PUSHIMM 1 JUMP 0", [0, 1], 66, 1)
+        self.accepted("PUSHIMM 1 ADDSP -1 JUMP 0", [0, 1, 0])
+        self.accepted("JUMP 2 STOP JUMP 1", [0, 0, 0])
+
+    def test_both_ways(self):
+        """ "Both ways of JUMPC count": forward, back, to itself and to the next place."""
+        forward = "PUSHIMM 1 JUMPC 3 STOP STOP"
+        self.accepted(forward, [0, 1, 0, 0])
+        for wrong in (1, 2, 15, 16, 65534, NOT_REACHED):
+            self.check(forward, [0, 1, wrong, 0], 66, 1)
+            self.check(forward, [0, 1, 0, wrong], 66, 1)
+            self.check(forward, [0, 1, wrong, wrong], 66, 1)
+        back = "PUSHIMM 3 PUSHIMM 1 SUB DUP JUMPC 1 STOP"
+        self.accepted(back, [0, 1, 2, 1, 2, 1])
+        self.check(back, [0, 1, 2, 1, 2, 2], 66, 4)
+        self.check("PUSHIMM 3 PUSHIMM 1 SUB JUMPC 1 STOP", [0, 1, 2, 1, 0], 66, 3)
+        self.check("PUSHIMM 1 JUMPC 1 STOP", [0, 1, 0], 66, 1)  # itself, with a value less
+        self.accepted("PUSHIMM 1 JUMPC 2 STOP", [0, 1, 0])
+        self.check("PUSHIMM 1 JUMPC 2 STOP", [0, 1, 1], 66, 1)
+
+    def test_first_place(self):
+        """Of two rules that fail the first place is told, and it is the one that leads on, not the one led to."""
+        self.check("PUSHIMM 1 STOP ADD", [0, 2, 0], 66, 0)
+        self.check("STOP JUMP 3 STOP STOP", [0, 1, 0, 2], 66, 1)
+        self.check("STOP STOP STOP JUMP 1", [0, 5, 0, 4], 66, 3)
+        self.check("STOP STOP STOP JUMP 1", [0, 16, 0, 16], 66, 1)
+        self.check("STOP ADD SWAP DUP", [0, NOT_REACHED, 1, 0], 66, 2)
+
+    # ---- "the program's end may never follow"
+
+    def test_end(self):
+        for text, needed, change in self.instructions():
+            name = text.split()[0]
+            if name not in ("STOP", "JUMP", "JUMPC"):
+                self.check(f"STOP {text}", [0, needed], 66, 1, 1000)
+                self.accepted(f"STOP {text}", [0, NOT_REACHED], 1000)
+        self.check("PUSHIMM 1", [0], 66, 0)
+        self.check("JUMP 1", [0], 66, 0)
+        self.check("JUMP 2 STOP", [0, 0], 66, 0)
+        self.check("PUSHIMM 1 JUMPC 3 STOP", [0, 1, 0], 66, 1)
+        self.check("PUSHIMM 1 JUMPC 0", [0, 1], 66, 1)
+        self.check("PUSHIMM 1 JUMPC 2", [0, 1], 66, 1)
+        self.accepted("STOP JUMPC 0", [0, NOT_REACHED])
+        self.accepted("STOP JUMP 2", [0, NOT_REACHED])
+        self.accepted("PUSHIMM 1 JUMPC 3 JUMP 0 STOP", [0, 1, 0, 0])
+
+    def test_end_is_no_unused_place(self):
+        """The code of STOP is 0, which unused places of a table have too."""
+        made = program("ADDSP 0")
+        self.assertEqual(sam.check_depths(made, 16, [0]), (66, 0))
+        made.length = 2
+        self.assertEqual(sam.check_depths(made, 16, [0, 0]), (0, 0))
+        self.assertEqual(sam.check_depths(made, 16, [0]), (64, 0))
+
+    # ---- 1,024 places
+
+    def test_full_programs(self):
+        pushes = "PUSHIMM 1 " * 1023
+        depths = list(range(1024))
+        self.check(pushes + "STOP", depths, 66, 999, 1000)
+        self.check(pushes + "STOP", [*depths[:1000], *[NOT_REACHED] * 24], 66, 999, 1000)
+        loop = "PUSHIMM 1 ADDSP -1 " * 511
+        self.accepted(loop + "ADDSP 0 STOP", [0, 1] * 511 + [0, 0], 2)
+        self.check(loop + "ADDSP 0 ADDSP 0", [0, 1] * 511 + [0, 0], 66, 1023, 2)
+        self.check(loop + "ADDSP 0 JUMP 1024", [0, 1] * 511 + [0, 0], 66, 1023, 2)
+        self.accepted(loop + "ADDSP 0 JUMP 0", [0, 1] * 511 + [0, 0], 2)
+        self.check(loop + "ADDSP 0 JUMP 1", [0, 1] * 511 + [0, 0], 66, 1023, 2)
+        self.check(loop + "STOP JSRIND", [0, 1] * 511 + [0, NOT_REACHED], 65, 1023, 2)
+        self.accepted("STOP " * 1024, [0] * 1024, 1)
+        self.accepted("JUMP 1023 " + "ADD " * 1022 + "STOP", [0] + [NOT_REACHED] * 1022 + [0], 1)
+        for count in (0, 1, 1023, 1025, 2048):
+            self.check("STOP " * 1024, [0] * count, 64)
+
+    # ---- refusals, and their order
+
+    def test_n(self):
+        for n in (0, 1001, 1002, 65535, 65536, 65537, 1 << 32, (1 << 32) + 1, (1 << 32) + 1000, 1 << 63,
+                  (1 << 63) + 1, DOUBLE_WORD - 1):  # fmt: skip
+            self.check("STOP", [0], 11, 0, n)
+        for n in (1, 2, 999, 1000):
+            self.accepted("STOP", [0], n)
+
+    def test_length(self):
+        for text, length in [("", 0), ("STOP", 1), ("STOP STOP", 2), ("STOP " * 40, 40)]:
+            for count in {0, length - 1, length + 1, 2 * length, length + 256, length + 65536} - {length, -1}:
+                self.check(text, [0] * count, 64)
+                self.check(text, [NOT_REACHED] * count, 64)
+
+    def test_empty_program(self):
+        self.check("", [], 66, 0)
+        self.check("", [], 66, 0, 1)
+        self.check("", [0], 64)
+        self.check("", [NOT_REACHED], 64)
+        self.check("", [], 11, 0, 0)
+        self.check("", [], 11, 0, 1001)
+
+    def test_forbidden(self):
+        """Anywhere, whatever its depth; the first of them."""
+        for text in self.FORBIDDEN:
+            for depth in (0, 1, 2, 16, 65534, NOT_REACHED):
+                self.check(f"STOP {text} STOP", [0, depth, 0], 65, 1)
+            self.check(f"{text} STOP STOP", [0, 0, 0], 65, 0)
+            self.check(f"STOP STOP {text}", [0, NOT_REACHED, NOT_REACHED], 65, 2)
+            for other in self.FORBIDDEN:
+                self.check(f"STOP STOP {text} {other}", [0, 0, NOT_REACHED, NOT_REACHED], 65, 2)
+
+    def broken_tables(self, made):
+        table, length = made.table, made.length
+        yield sam.Program(table[:-1], length)
+        yield sam.Program(table + [0], length)
+        yield sam.Program([], length)
+        yield sam.Program(table[:-1] + [1], length)
+        yield sam.Program([54 << 32] + table[1:], length)
+        yield sam.Program([1 << 63] + table[1:], length)
+        yield sam.Program(table, 1025)
+        yield sam.Program(table, (1 << 32) + length)
+
+    def test_order(self):
+        """Each with all that come behind it: 10, 11, 64, 65, 66; a failed rule at 0 is before a forbidden place."""
+        made = program("ADD JSRIND STOP")
+        right, short, long = [0, 0, 0], [0, 0], [0, 0, 0, 0]
+        for n in (0, 16, 1001):
+            for depths in (right, short, long, [], [NOT_REACHED] * 3):
+                for broken in self.broken_tables(made):
+                    self.assertEqual(sam.check_depths(broken, n, depths), (10, 0))
+                if n != 16:
+                    self.assertEqual(sam.check_depths(made, n, depths), (11, 0))
+        for depths in (short, long, []):
+            self.assertEqual(sam.check_depths(made, 16, depths), (64, 0))
+        self.assertEqual(sam.check_depths(made, 16, right), (65, 1))
+        self.assertEqual(sam.check_depths(made, 16, [NOT_REACHED] * 3), (65, 1))
+        self.check("ADD STOP STOP", right, 66, 0)
+
+    def test_order_of_an_empty_program(self):
+        for broken in self.broken_tables(program("")):
+            self.assertEqual(sam.check_depths(broken, 0, [0]), (10, 0))
+            self.assertEqual(sam.check_depths(broken, 16, []), (10, 0))
+        self.check("", [0], 11, 0, 0)
+
+    # ---- what an accepted list promises
+
+    def held_run(self, made, n, depths, output, limit=300):
+        """ "From a reset, no run of an accepted program meets 2, 3 or 7. Each place such a run reaches has SP as its
+        listed depth." The number that ends it, and the places reached."""
+        state = sam.State([9] * n, [9] * n, [], bytearray(output))
+        self.assertEqual(sam.reset(made, state), 0)
+        reached = set()
+        for _ in range(limit):
+            registers = state.registers
+            self.assertEqual(depths[registers.pc], registers.sp)
+            reached.add(registers.pc)
+            number = plain_step(made, state)
+            if number:
+                self.assertNotIn(number, (2, 3, 7))
+                return number, reached
+        return 50, reached
+
+    def pairs(self, chooser, count):
+        """Programs with lists: proposed for them, or with programs made for the lists."""
+        for _ in range(count):
+            yield depth_cases.any_proposed(chooser)
+            n = chooser.choice([2, 3, 16, 1000])
+            yield depth_cases.any_listed_program(chooser, chooser.randrange(1, 30), n)
+
+    def test_runs(self):
+        """With the least N that is accepted; with one cell less the list is not."""
+        endings = Counter()
+        for made, depths in self.pairs(random.Random(10), 250):
+            least = depth_cases.least_size(made, depths)
+            self.assertEqual(sam.check_depths(made, least, depths), (0, 0))
+            if least > 1:
+                self.assertEqual(sam.check_depths(made, least - 1, depths)[0], 66)
+            for n, output in [(least, 256), (least, 0), (1000, 2)]:
+                number, _ = self.held_run(made, n, depths, output)
+                endings[number] += 1
+        self.assertEqual(set(endings), {1, 4, 5, 6, 12, 50})
+
+    def test_runs_of_other_lists(self):
+        """Right lists with a depth or two changed: where one is accepted still, it holds."""
+        chooser, answers = random.Random(11), Counter()
+        for made, depths in self.pairs(chooser, 400):
+            for _ in range(chooser.randrange(1, 3)):
+                depths[chooser.randrange(len(depths))] = chooser.choice([0, 1, 2, 3, 15, 16, 65534, NOT_REACHED])
+            number, _ = sam.check_depths(made, 16, depths)
+            answers[number] += 1
+            if number == 0:
+                self.held_run(made, 16, depths, 2)
+        self.assertGreater(min(answers[0], answers[66]), 40)
+
+    def test_every_small_program(self):
+        """Two places: where some list is accepted the proposed one is, and it holds; where a run meets 2, 3 or 7 there
+        is none."""
+        texts = ["STOP", "PUSHIMM 1", "PUSHIMM 0", "DUP", "ADD", "ADDSP -1", "ADDSP 1", "JUMP 0", "JUMP 1", "JUMP 2",
+                 "JUMPC 0", "JUMPC 1", "JUMPC 2"]  # fmt: skip
+        for pair, n in product(product(texts, repeat=2), (1, 2, 3)):
+            made = program(" ".join(pair))
+            lists = product((0, 1, 2, NOT_REACHED), repeat=2)
+            accepted = [list(depths) for depths in lists if sam.check_depths(made, n, depths) == (0, 0)]
+            try:
+                self.assertIn(depth_list.proposed(made, n), accepted)
+            except depth_list.NoList:
+                self.assertEqual(accepted, [])
+            for depths in accepted:
+                self.held_run(made, n, depths, 0, 9)
+            if sam.run(*self.started(made, n), 9)[0] in (2, 3, 7):
+                self.assertEqual(accepted, [])
+
+    def started(self, made, n):
+        state = sam.State([0] * n, [0] * n, [])
+        self.assertEqual(sam.reset(made, state), 0)
+        return made, state
+
+    # ---- the proposing script, and its text
+
+    def proposed(self, text, n=1000):
+        try:
+            return depth_list.proposed(program(text), n)
+        except depth_list.NoList as why:
+            return str(why)
+
+    def test_proposed(self):
+        none = NOT_REACHED
+        self.assertEqual(self.proposed("PUSHIMM 3 a: PUSHIMM 1 SUB DUP JUMPC a STOP"), [0, 1, 2, 1, 2, 1])
+        self.assertEqual(self.proposed("JUMP a ADD a: STOP ADD"), [0, none, 0, none])
+        self.assertEqual(self.proposed("ADDSP 3 PUSHIMM 1 JUMPC a ADDSP -3 STOP a: STOP"), [0, 3, 4, 3, 0, 3])
+        for text, n, place in [("", 16, "empty"), ("STOP JSRIND", 16, "place 1, JSRIND"), ("PUSHIMM 7 ADD STOP", 16,
+                               "place 1, ADD"), ("PUSHIMM 7 STOP", 1, "place 0, PUSHIMM 7"), ("STOREOFF 0 STOP", 16,
+                               "place 0, STOREOFF 0"), ("a: PUSHIMM 7 JUMP a", 16, "place 1, JUMP 0"),
+                               ("JUMP 1", 16, "place 0, JUMP 1"), ("PUSHIMM 7", 16, "place 0, PUSHIMM 7")]:  # fmt: skip
+            self.assertIn(place, self.proposed(text, n))
+
+    def test_proposed_is_accepted(self):
+        """Or there is none, and that for the most cells is refused."""
+        chooser, answers = random.Random(12), Counter()
+        for _ in range(400):
+            made, n = depth_cases.any_flat_program(chooser), chooser.choice([2, 5, 16])
+            try:
+                listed, number = depth_list.proposed(made, n), 0
+            except depth_list.NoList:
+                listed, number = self.proposed_for_most(made), 66
+            if listed:
+                self.assertEqual(sam.check_depths(made, n, listed)[0], number)
+                answers[number] += 1
+        self.assertGreater(min(answers[0], answers[66]), 40)
+
+    def proposed_for_most(self, made):
+        try:
+            return depth_list.proposed(made)
+        except depth_list.NoList:
+            return []
+
+    def test_text(self):
+        made = program("JUMP a ADD a: PUSHIMMF 2.5 STOP")
+        listed = [0, NOT_REACHED, 0, 1]
+        text = depth_list.written(made, listed)
+        self.assertEqual(text.splitlines(), ["0    // 0 JUMP 2", "-    // 1 ADD", "0    // 2 PUSHIMMF #40200000",
+                                             "1    // 3 STOP"])  # fmt: skip
+        self.assertEqual(depth_list.read(text), listed)
+        self.assertEqual(depth_list.read("// by hand\n0\n\n  - // 7\r\n 65534\n12"), [0, NOT_REACHED, 65534, 12])
+        self.assertEqual(depth_list.read("0 1 - // 5\n//6\n"), [0, 1, NOT_REACHED])
+        self.assertEqual(depth_list.read(""), [])
+        for wrong in ("65535", "-1", "x", "1.0", "--", "0x1", "+1", "\u0663"):
+            self.assertRaises(ValueError, depth_list.read, wrong)
 
 
 class Soundness(unittest.TestCase):

@@ -1,4 +1,4 @@
-/* Tests of the C library through sam.h: the complaint of document 01, those of requests b and d, requests e to i, and
+/* Tests of the C library through sam.h: the complaint of document 01, those of requests b and d, requests e to j, and
  * samples of every refusal. One line for each check. */
 #include <stdbool.h>
 #include <stdio.h>
@@ -2071,6 +2071,301 @@ static void test_complaint_after_forget(void) {
     check_dwell("  read", 0, 40);
 }
 
+/* ---- request j: a depth list with each delivered program */
+
+enum { MANY = 65536 }; /* more than a length, by a number whose lowest sixteen bits are 0 */
+
+static uint16_t depths[MANY + SAM_TABLE_PLACES], depths_before[MANY + SAM_TABLE_PLACES];
+static uint64_t table_before[SAM_TABLE_PLACES + 1];
+static size_t depths_len;
+
+/* A list as words: a number, or `-` for a place that is not reached. */
+static void read_depths(const char *words) {
+    depths_len = 0;
+    while (*words != '\0') {
+        unsigned depth = SAM_NOT_REACHED;
+        int width = 1;
+        if (*words != '-') sscanf(words, "%u%n", &depth, &width);
+        depths[depths_len++] = (uint16_t)depth;
+        words += width;
+        while (*words == ' ') words++;
+    }
+}
+
+static uint32_t judge(size_t places, uint64_t program_length, uint64_t cells, size_t count, size_t told_len) {
+    mark_told();
+    memcpy(depths_before, depths, sizeof depths);
+    memcpy(table_before, table, sizeof table);
+    return sam_depths(table, places, program_length, cells, depths, count, told, told_len);
+}
+
+/* Nothing is written but told. */
+static void check_only_told(size_t told_from) {
+    check("  list unchanged", 0, (uint64_t)(memcmp(depths, depths_before, sizeof depths) != 0));
+    check("  table unchanged", 0, (uint64_t)(memcmp(table, table_before, sizeof table) != 0));
+    check_told_marked(told_from);
+}
+
+/* The number and the place for the program in `table` and this many of `depths`. */
+static void check_judged(const char *name, uint64_t cells, size_t count, uint32_t number, uint64_t place) {
+    check(name, number, judge(SAM_TABLE_PLACES, length, cells, count, 1));
+    check("  place", place, told[0]);
+    check_only_told(1);
+}
+
+/* A program, N, its list, and the answer. */
+static const struct { const char *source; uint64_t cells; const char *words; uint32_t number; uint64_t place; }
+lists[] = {
+    {"STOP", 1, "0", 0, 0},
+    {"PUSHIMM 6 PUSHIMM 4 CMP STOP", 3, "0 1 2 1", 0, 0},
+    {"PUSHIMM 3 a: PUSHIMM 1 SUB DUP JUMPC a STOP", 3, "0 1 2 1 2 1", 0, 0},
+    {"JUMP 2 ADD STOP", 1, "0 - 0", 0, 0},
+    {"JUMP 0", 1, "0", 0, 0},
+    {"STOP PUSHIMM 1", 1, "0 -", 0, 0},
+    {"STOP ADD STOP", 16, "0 2 1", 0, 0}, /* nothing leads to place 1 */
+    /* "place 0 has depth 0" */
+    {"STOP", 16, "1", 66, 0},
+    {"STOP", 16, "-", 66, 0},
+    {"STOP", 16, "65534", 66, 0},
+    {"STOP STOP", 16, "- 0", 66, 0},
+    /* "every place with a depth has enough values for its instruction" */
+    {"ADD STOP", 16, "0 0", 66, 0},
+    {"PUSHIMM 1 ADD STOP", 16, "0 1 0", 66, 1},
+    {"DUP STOP", 16, "0 1", 66, 0},
+    {"STOP DUP STOP", 16, "0 1 2", 0, 0},
+    {"STOP SWAP STOP", 16, "0 1 1", 66, 1},
+    {"STOP SWAP STOP", 16, "0 2 2", 0, 0},
+    {"STOP STOREIND STOP", 16, "0 1 0", 66, 1},
+    {"STOP STOREIND STOP", 16, "0 2 0", 0, 0},
+    {"STOREOFF 0 STOP", 16, "0 0", 66, 0},
+    {"PUSHOFF 0 STOP", 16, "0 1", 0, 0}, /* a run meets 6 */
+    {"STOP PUSHIND STOP", 16, "0 0 0", 66, 1},
+    {"STOP PUSHIND STOP", 16, "0 1 1", 0, 0},
+    {"WRITECH STOP", 16, "0 0", 66, 0},
+    {"JUMPC 1 STOP", 16, "0 0", 66, 0},
+    {"ADDSP -1 STOP", 16, "0 0", 66, 0},
+    {"STOP ADDSP -3 STOP", 16, "0 2 0", 66, 1},
+    {"STOP ADDSP -3 STOP", 16, "0 3 0", 0, 0},
+    {"ADDSP 3 ADDSP -3 STOP", 4, "0 3 0", 0, 0},
+    {"LINK POPFBR STOP", 2, "0 1 0", 0, 0},
+    {"PUSHSP PUSHFBR PUSHIMMPA 0 PUSHIMMF 2.5 PUSHIMMCH 65 WRITECH FTOI ITOF STOP", 6, "0 1 2 3 4 5 4 4 4", 0, 0},
+    /* "its depth after is below N" */
+    {"PUSHIMM 1 STOP", 1, "0 1", 66, 0},
+    {"PUSHIMM 1 STOP", 2, "0 1", 0, 0},
+    {"ADDSP 4 STOP", 4, "0 4", 66, 0},
+    {"ADDSP 3 STOP", 4, "0 3", 0, 0},
+    {"STOP STOP", 16, "0 15", 0, 0},
+    {"STOP STOP", 16, "0 16", 66, 1},
+    {"STOP STOP", 1000, "0 999", 0, 0},
+    {"STOP STOP", 1000, "0 1000", 66, 1},
+    {"STOP STOP", 1000, "0 65534", 66, 1},
+    {"STOP WRITECH STOP", 4, "0 4 3", 0, 0},
+    {"STOP WRITECH STOP", 4, "0 5 4", 66, 1},
+    {"STOP ADDSP -999 STOP", 1000, "0 1998 999", 0, 0},
+    {"STOP ADDSP -999 STOP", 1000, "0 1999 1000", 66, 1},
+    {"STOP ADDSP 2 STOP", 1000, "0 65534 0", 66, 1}, /* the sum is exact */
+    {"STOP ADDSP 999 STOP", 1000, "0 65534 997", 66, 1},
+    {"STOP PUSHIMM 1 STOP", 1000, "0 65534 -", 66, 1},
+    /* "each place that may follow has that same depth"; "Both ways of JUMPC count" */
+    {"PUSHIMM 1 STOP", 16, "0 0", 66, 0},
+    {"PUSHIMM 1 STOP", 16, "0 2", 66, 0},
+    {"PUSHIMM 1 STOP", 16, "0 -", 66, 0},
+    {"JUMP 2 STOP STOP", 16, "0 0 1", 66, 0},
+    {"JUMP 2 STOP STOP", 16, "0 0 -", 66, 0},
+    {"JUMP 2 STOP STOP", 16, "0 9 0", 0, 0},
+    {"PUSHIMM 1 JUMPC 3 STOP STOP", 16, "0 1 0 0", 0, 0},
+    {"PUSHIMM 1 JUMPC 3 STOP STOP", 16, "0 1 1 0", 66, 1},
+    {"PUSHIMM 1 JUMPC 3 STOP STOP", 16, "0 1 0 1", 66, 1},
+    {"PUSHIMM 1 JUMPC 3 STOP STOP", 16, "0 1 - 0", 66, 1},
+    {"PUSHIMM 1 JUMPC 3 STOP STOP", 16, "0 1 0 -", 66, 1},
+    {"PUSHIMM 1 JUMPC 0 STOP", 16, "0 1 0", 0, 0},
+    {"PUSHIMM 1 JUMPC 1 STOP", 16, "0 1 0", 66, 1},
+    {"PUSHIMM 1 JUMPC 2 STOP", 16, "0 1 0", 0, 0},
+    {"STOP JUMP 0 STOP", 16, "0 - 7", 0, 0}, /* a place that is not reached has no rule */
+    {"STOP JUMP 0 STOP", 16, "0 1 7", 66, 1},
+    /* "the program's end may never follow" */
+    {"PUSHIMM 1", 16, "0", 66, 0},
+    {"STOP ADDSP 0", 16, "0 0", 66, 1},
+    {"JUMP 1", 16, "0", 66, 0},
+    {"JUMP 2 STOP", 16, "0 0", 66, 0},
+    {"PUSHIMM 1 JUMPC 3 STOP", 16, "0 1 0", 66, 1},
+    {"PUSHIMM 1 JUMPC 0", 16, "0 1", 66, 1},
+    {"STOP JUMP 2", 16, "0 -", 0, 0},
+    /* "both with their first place" */
+    {"PUSHIMM 1 STOP ADD STOP", 16, "0 2 0 0", 66, 0},
+    {"STOP STOP STOP JUMP 1", 16, "0 5 0 4", 66, 3},
+    {"STOP JSR 0 STOP", 16, "0 0 0", 65, 1},
+    {"STOP JSRIND STOP", 16, "0 - 0", 65, 1},
+    {"STOP STOP JUMPIND", 16, "0 0 -", 65, 2},
+    {"POPSP STOP STOP", 16, "0 0 0", 65, 0},
+    {"STOP POPSP JUMPIND", 16, "0 - -", 65, 1},
+    /* 65 before 66, wherever; 64 before both, and 11 before all three */
+    {"ADD STOP JSRIND", 16, "0 0 -", 65, 2},
+    {"ADD STOP JSRIND", 16, "- - -", 65, 2},
+    {"ADD STOP JSRIND", 16, "0 0", 64, 0},
+    {"ADD STOP JSRIND", 16, "0 0 - 0", 64, 0},
+    {"ADD STOP JSRIND", 16, "", 64, 0},
+    {"ADD STOP JSRIND", 0, "0 0", 11, 0},
+    {"ADD STOP JSRIND", 0, "0 0 -", 11, 0},
+    {"ADD STOP JSRIND", 1001, "", 11, 0},
+    {"ADD STOP STOP", 16, "0 0", 64, 0},
+    {"ADD STOP STOP", 0, "0 0 0", 11, 0},
+    {"STOP", 16, "0 0", 64, 0},
+    {"STOP", 16, "", 64, 0},
+    {"STOP", 0, "0 0", 11, 0},
+    /* "an empty program is 66 at 0" */
+    {"", 16, "", 66, 0},
+    {"", 1, "", 66, 0},
+    {"", 16, "0", 64, 0},
+    {"", 16, "-", 64, 0},
+    {"", 0, "", 11, 0},
+    {"", 0, "0", 11, 0},
+};
+
+static void test_depth_lists(void) {
+    puts("depth lists");
+    for (size_t i = 0; i < sizeof lists / sizeof lists[0]; i++) {
+        printf("%s\n", lists[i].source);
+        check("  assemble", 0, assemble(lists[i].source));
+        read_depths(lists[i].words);
+        check_judged(lists[i].words, lists[i].cells, depths_len, lists[i].number, lists[i].place);
+    }
+}
+
+static const uint64_t no_cells[] = {
+    0, 1001, 1002, 65536, 65540, UINT64_C(1) << 32, (UINT64_C(1) << 32) + 1, (UINT64_C(1) << 32) + 1000,
+    UINT64_C(1) << 63, UINT64_MAX,
+};
+
+static void test_cells_of_depths(void) {
+    puts("depth lists: N, and a list that is much too long");
+    check("  assemble", 0, assemble("PUSHIMM 6 PUSHIMM 4 CMP STOP"));
+    read_depths("0 1 2 1");
+    for (size_t i = 0; i < sizeof no_cells / sizeof no_cells[0]; i++) {
+        check_judged("  N outside", no_cells[i], 4, 11, 0);
+        check_judged("  and a list too short", no_cells[i], 3, 11, 0);
+    }
+    check_judged("  N 1", 1, 4, 66, 0);
+    check_judged("  N 2", 2, 4, 66, 1);
+    for (uint64_t cells = 3; cells <= SAM_CELL_LIMIT; cells += 1 + cells / 3) check_judged("  N", cells, 4, 0, 0);
+    check_judged("  N 1,000", SAM_CELL_LIMIT, 4, 0, 0);
+    check_judged("  a list of 65,540", SAM_CELL_LIMIT, 4 + MANY, 64, 0);
+}
+
+/* 10 before all else but 31, with a list that is accepted, 66, 64 and for an N of 0. */
+static void check_broken_depths(const char *name, size_t places, uint64_t program_length) {
+    static const struct { uint64_t cells; size_t count; uint16_t first; } behind[] = {
+        {16, 4, 0}, {16, 4, 1}, {16, 3, 0}, {0, 4, 0}, {0, 0, 1},
+    };
+    for (size_t i = 0; i < sizeof behind / sizeof behind[0]; i++) {
+        depths[0] = behind[i].first;
+        check(name, 10, judge(places, program_length, behind[i].cells, behind[i].count, 1));
+        check("  place", 0, told[0]);
+        check_only_told(1);
+        check("  31", 31, judge(places, program_length, behind[i].cells, behind[i].count, 0));
+        check_only_told(0);
+    }
+}
+
+static void test_broken_tables_of_depths(void) {
+    puts("depth lists: broken tables");
+    check("  assemble", 0, assemble("PUSHIMM 6 PUSHIMM 4 CMP STOP"));
+    read_depths("0 1 2 1");
+    check_broken_depths("  1,023 places", SAM_TABLE_PLACES - 1, length);
+    check_broken_depths("  1,025 places", SAM_TABLE_PLACES + 1, length);
+    check_broken_depths("  no place", 0, length);
+    check_broken_depths("  length 1,025", SAM_TABLE_PLACES, SAM_TABLE_PLACES + 1);
+    check_broken_depths("  length 2^32 + 4", SAM_TABLE_PLACES, (UINT64_C(1) << 32) + length);
+    check_broken_depths("  a place unused that is not zero", SAM_TABLE_PLACES, 2);
+    table[2] = UINT64_C(54) << 32;
+    check_broken_depths("  code 54", SAM_TABLE_PLACES, length);
+    table[2] = UINT64_C(47) << 32 | 5; /* JSR, which is 65, but with a target above the length */
+    check_broken_depths("  JSR 5", SAM_TABLE_PLACES, length);
+}
+
+/* "31 before anything else": with a list that is accepted, and with each refusal. */
+static void test_told_of_depths(void) {
+    static const struct { const char *source; uint64_t cells; size_t count; uint32_t number; } kinds[] = {
+        {"STOP STOP", 16, 2, 0}, {"STOP STOP", 0, 2, 11}, {"STOP STOP", 16, 1, 64}, {"STOP JSRIND", 16, 2, 65},
+        {"DUP STOP", 16, 2, 66}, {"", 16, 0, 66},
+    };
+    puts("depth lists: a told of another length");
+    read_depths("0 0");
+    for (size_t i = 0; i < sizeof kinds / sizeof kinds[0]; i++) {
+        check("  assemble", 0, assemble(kinds[i].source));
+        check("  a told of one", kinds[i].number, judge(SAM_TABLE_PLACES, length, kinds[i].cells, kinds[i].count, 1));
+        for (size_t told_len = 0; told_len <= SAM_ASSEMBLE_TOLD + 1; told_len++) {
+            if (told_len == 1) continue;
+            check("  31", 31, judge(SAM_TABLE_PLACES, length, kinds[i].cells, kinds[i].count, told_len));
+            check_only_told(0);
+        }
+    }
+}
+
+/* 1,024 places: pushes and what takes them off in turns, and at the end two that lead to place 0. */
+static void test_full_depths(void) {
+    puts("depth lists: 1,024 places");
+    for (size_t i = 0; i < SAM_TABLE_PLACES; i++) {
+        table[i] = i % 2 == 0 ? UINT64_C(1) << 32 : UINT64_C(39) << 32 | UINT32_MAX; /* PUSHIMM 0, ADDSP -1 */
+        depths[i] = i % 2;
+    }
+    length = SAM_TABLE_PLACES;
+    table[1022] = UINT64_C(44) << 32 | 1023; /* JUMP 1023 */
+    table[1023] = UINT64_C(44) << 32;        /* JUMP 0 */
+    depths[1023] = 0;
+    check_judged("  a loop", 2, 1024, 0, 0);
+    check_judged("  one cell", 1, 1024, 66, 0);
+    check_judged("  a list of 1,023", 2, 1023, 64, 0);
+    check_judged("  a list of 1,025", 2, 1025, 64, 0);
+    check_judged("  a list of 66,560", 2, 1024 + MANY, 64, 0);
+    check_judged("  no list", 2, 0, 64, 0);
+    table[1023] = UINT64_C(44) << 32 | 1024;
+    check_judged("  the end follows", 2, 1024, 66, 1023);
+    table[1023] = UINT64_C(39) << 32;
+    check_judged("  the end follows ADDSP 0", 2, 1024, 66, 1023);
+    table[1023] = UINT64_C(46) << 32;
+    check_judged("  JUMPIND", 2, 1024, 65, 1023);
+    depths[1] = 2;
+    check_judged("  and a failed rule before", 2, 1024, 65, 1023);
+    table[1023] = 0;
+    check_judged("  the failed rule", 2, 1024, 66, 0);
+}
+
+/* A program, the least N its list is accepted for, the list, and the numbers of the last step and of a run. */
+static const struct { const char *source; size_t cells; const char *words; uint32_t last, ending; } played[] = {
+    {"STOP", 1, "0", 1, 0},
+    {"PUSHIMM 3 a: PUSHIMM 1 SUB DUP JUMPC a STOP", 3, "0 1 2 1 2 1", 1, 0},
+    {"PUSHIMM 5 DUP ISPOS JUMPC a PUSHIMM -1 TIMES a: STOP", 3, "0 1 2 2 1 2 1", 1, 0},
+    {"PUSHIMM 1 PUSHFBR ADD STOP", 3, "0 1 2 1", 4, 4},
+    {"PUSHIMM 1 PUSHIMM 0 DIV STOP", 3, "0 1 2 1", 5, 5},
+    {"PUSHOFF 0 STOP", 2, "0 1", 6, 6},
+    {"a: ADDSP 3 SWAP ADDSP -3 JUMP a", 4, "0 3 3 0", 0, 50},
+};
+
+enum { MOST_STEPS = 40 };
+
+/* "no run of an accepted program meets 2, 3 or 7. Each place such a run reaches has SP as its listed depth." */
+static void test_played_depths(void) {
+    puts("depth lists: runs of accepted programs");
+    for (size_t i = 0; i < sizeof played / sizeof played[0]; i++) {
+        printf("%s\n", played[i].source);
+        begin(played[i].source, played[i].cells, 0);
+        read_depths(played[i].words);
+        check_judged("  accepted", n, depths_len, 0, 0);
+        check("  one cell less", n == 1 ? 11 : 66, judge(SAM_TABLE_PLACES, length, n - 1, depths_len, 1));
+        uint32_t number = 0;
+        for (int steps = 0; number == 0 && steps < MOST_STEPS; steps++) {
+            check("  SP as listed", depths[registers[SAM_PC]], registers[SAM_SP]);
+            number = step();
+        }
+        check("  the last step", played[i].last, number);
+        check("  SP as listed", depths[registers[SAM_PC]], registers[SAM_SP]);
+        check("  reset", 0, reset(n, h));
+        check("  run", played[i].ending, run(MOST_STEPS));
+        check("  SP as listed", depths[registers[SAM_PC]], registers[SAM_SP]);
+    }
+}
+
 /* ---- lists and images */
 
 static void test_list(void) {
@@ -2175,6 +2470,12 @@ int main(void) {
     test_long_session();
     test_forget_leaves_output();
     test_complaint_after_forget();
+    test_depth_lists();
+    test_cells_of_depths();
+    test_broken_tables_of_depths();
+    test_told_of_depths();
+    test_full_depths();
+    test_played_depths();
     test_list();
     test_images();
     printf("%u checks, %u failed\n", checks, failed);

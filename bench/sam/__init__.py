@@ -1,18 +1,21 @@
-"""An interpreter of document 01 with requests a, b and d to i of document 02, written from the documents and their
+"""An interpreter of document 01 with requests a, b and d to j of document 02, written from the documents and their
 settled readings, to compare the proved one with."""
 
 from .console import cell_line, console
+from .depths import NOT_REACHED, check_depths
 from .dwell import dwell
 from .image import pack, unpack
 from .machine import Program, Registers, State, forget, reset, run, sound, step, step_back
 from .text import assemble, list_program
 
 __all__ = [
+    "NOT_REACHED",
     "Program",
     "Registers",
     "State",
     "assemble",
     "cell_line",
+    "check_depths",
     "console",
     "dwell",
     "forget",
