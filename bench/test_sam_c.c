@@ -2123,6 +2123,10 @@ lists[] = {
     {"JUMP 0", 1, "0", 0, 0},
     {"STOP PUSHIMM 1", 1, "0 -", 0, 0},
     {"STOP ADD STOP", 16, "0 2 1", 0, 0}, /* nothing leads to place 1 */
+    /* README's example: two ways to one STOP */
+    {"PUSHIMM 1 JUMPC 4 PUSHIMM 20 JUMP 5 PUSHIMM 40 STOP", 2, "0 1 0 1 0 1", 0, 0},
+    {"PUSHIMM 1 JUMPC 4 PUSHIMM 20 JUMP 5 PUSHIMM 40 STOP", 1, "0 1 0 1 0 1", 66, 0},
+    {"PUSHIMM 1 JUMPC 4 PUSHIMM 20 JUMP 5 PUSHIMM 40 STOP", 2, "0 1 0 1 0 2", 66, 3},
     /* "place 0 has depth 0" */
     {"STOP", 16, "1", 66, 0},
     {"STOP", 16, "-", 66, 0},

@@ -168,7 +168,8 @@ uint32_t sam_dwell(const uint64_t *table, size_t places, uint64_t length, const 
  * depth has enough values for its instruction, its depth after is below n, and each place that may follow has that same
  * depth. Both ways of JUMPC count, STOP has no follower, and the program's end may never follow. From a reset with n
  * cells no run of such a program meets 2, 3 or 7, and each place that it reaches has SP as its listed depth. 10 for the
- * table, 11 for n, then 64, 65, 66 in order; an empty program is 66. told[1]: the place of 65 and 66, else 0. */
+ * table, 11 for n, then 64, 65, 66 in order; an empty program with an empty list is 66. told[1]: the place of 65 and
+ * 66, else 0. */
 uint32_t sam_depths(const uint64_t *table, size_t places, uint64_t length, uint64_t n, const uint16_t *depths,
                     size_t depths_len, uint64_t *told, size_t told_len);
 

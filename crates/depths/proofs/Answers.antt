@@ -14,9 +14,6 @@ use Rattle.rules.specs.declared.DepthRefusal.the-variants.{UnsoundTable, Outsid
 use Rattle.rules.specs.declared.Checked.the-variants.{Accepted, NotAccepted}
 use Rattle.depths.specs.Judged.{Judgeable}
 
-each-passes : (test : ℕ → Bool) (count : ℕ) → firstFailing test count 0 ≡ count → eqb (firstFailing test count 0) count ≡ true
-each-passes test count q = eq-eqb (firstFailing test count 0) count q
-
 one-fails : (test : ℕ → Bool) (count k : ℕ) → k ≡ firstFailing test count 0 → k < count → eqb (firstFailing test count 0) count ≡ false
 one-fails test count k q h = ne-eqb (firstFailing test count 0) count (λ e. absurd (let z : ⊥ = omega (arith, q, h, e) in z))
 
@@ -59,7 +56,7 @@ module _ (p : Program) (n : ℕ) (depths : List ℕ) where
       judgeable = record { table = z .table; long = z .long; allows = allows }
 
       allows-is : eqb (firstFailing (allowed p) (p .count) 0) (p .count) ≡ true
-      allows-is = each-passes (allowed p) (p .count) allows
+      allows-is = eq-eqb (firstFailing (allowed p) (p .count) 0) (p .count) allows
 
       -- place 0, by the list's length or the program's
       start : listed (p .count) depths 0 0 ≡ listed (length depths) depths 0 0
@@ -79,5 +76,5 @@ module _ (p : Program) (n : ℕ) (depths : List ℕ) where
         pub told-accepted : firstFailing (rule p n depths) (p .count) 0 ≡ p .count → Accepted ≡ check p n depths
         unfolding check
         told-accepted q =
-            rw (z .table, le-leb 1 n (z .some), le-leb n maxCells (z .few), long-is, allows-is, start ∙ h, each-passes (rule p n depths) (p .count) q)
+            rw (z .table, le-leb 1 n (z .some), le-leb n maxCells (z .few), long-is, allows-is, start ∙ h, eq-eqb (firstFailing (rule p n depths) (p .count) 0) (p .count) q)
             refl

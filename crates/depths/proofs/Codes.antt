@@ -1,7 +1,7 @@
 -- What the table of instructions tells of a code: whether it is forbidden, what it leaves, and where it goes on. Assumes nothing.
 use Prim.Native.Nat.{ℕ, suc, _+_, _-_, _≤_, _<_}
 use mathlib.Core.Path.{_≡_, refl, sym, ap, _∙_}
-use mathlib.Core.Bool.{Bool, true, false, not, _&&_, _||_, true≢false, and-true}
+use mathlib.Core.Bool.{Bool, true, false, not, _&&_, _||_, and-true}
 use mathlib.Core.List.{List, [], _∷_}
 use native.Mathlib.Nat.{add-zero}
 use native.Mathlib.Omega.{arith}
@@ -16,23 +16,17 @@ use Rattle.rules.specs.Actions.{taken, addSp}
 use Rattle.rules.specs.Decide.{Action}
 use Rattle.rules.specs.Instructions.{Row, codes, rows, rowOf, actionOf}
 use Rattle.rules.specs.DepthList.{depthAfter, followers, forbidden}
-use Rattle.rules.proofs.Tests.{by-test, below, at-below}
+use Rattle.rules.proofs.Tests.{by-test, never, below}
 use Rattle.rules.proofs.Rows.{EachRow, end, _then_, at-code}
-use Rattle.program.proofs.OperandCodes.{oneOf, NoneOf, none-one}
-
-never : {A : Type 0} → true ≡ false → A
-never h = absurd (true≢false h)
+use Rattle.program.proofs.OneOf.{oneOf, NoneOf, elsewhere}
 
 -- ---- forbidden: POPSP, JUMPIND, JSR, JSRIND, the last first
 
 abbrev forbiddenCodes : List ℕ
 forbiddenCodes = 48 ∷ 47 ∷ 46 ∷ 35 ∷ []
 
-codeRight : ℕ → Bool
-codeRight c = oneOf forbiddenCodes c || not (forbidden (rowOf c))
-
-codes-right : below codeRight codes ≡ true
-unfolding codeRight oneOf forbidden text same rowOf rows
+codes-right : below (λ c. oneOf forbiddenCodes c || not (forbidden (rowOf c))) codes ≡ true
+unfolding oneOf forbidden text same rowOf rows
 codes-right = refl
 
 past-allowed : (c : ℕ) → codes ≤ c → forbidden (rowOf c) ≡ false
@@ -40,11 +34,9 @@ unfolding forbidden text same rowOf rows
 past-allowed c h = ap forbidden (List·getD-eq-default rows _ h)
 
 pub allowed-elsewhere : (c : ℕ) → NoneOf forbiddenCodes c → forbidden (rowOf c) ≡ false
-unfolding codeRight
 allowed-elsewhere c n =
     by-test (ltb c codes)
-    (λ h.
-    not-true _ (sym (ap (λ (b : Bool). b || not (forbidden (rowOf c))) (none-one forbiddenCodes c n)) ∙ at-below codeRight codes codes-right c (ltb-true c codes h)))
+    (λ h. not-true _ (elsewhere forbiddenCodes (λ k. not (forbidden (rowOf k))) codes codes-right c (ltb-true c codes h) n))
     (λ h. past-allowed c (ltb-false c codes h))
 
 -- ---- the depth after: what was below what it needs, and what it leaves in its place
@@ -120,12 +112,12 @@ jumpc-followers n place = refl
 leads : Row → Bool
 leads w = same (text (w .name)) (text "STOP") || (same (text (w .name)) (text "JUMP") || same (text (w .name)) (text "JUMPC"))
 
-abbrev GoesOn : Row → Type 0
-GoesOn w = leads w ≡ false → forbidden w ≡ false → (n place : ℕ) → followers (w .action) n place ≡ (place + 1) ∷ (place + 1) ∷ []
+abbrev NextRow : Row → Type 0
+NextRow w = leads w ≡ false → forbidden w ≡ false → (n place : ℕ) → followers (w .action) n place ≡ (place + 1) ∷ (place + 1) ∷ []
 
-goes-rows : EachRow GoesOn rows
+next-rows : EachRow NextRow rows
 unfolding rows leads forbidden text same followers
-goes-rows =
+next-rows =
     -- STOP, PUSHIMM, PUSHIMMF, DUP, SWAP, ADD
     (λ l. never l) then (λ l h n k. refl) then (λ l h n k. refl) then (λ l h n k. refl) then (λ l h n k. refl) then (λ l h n k. refl)
     -- SUB, TIMES, DIV, MOD, ADDF, SUBF
@@ -150,19 +142,15 @@ goes-rows =
 abbrev leadingCodes : List ℕ
 leadingCodes = 45 ∷ 44 ∷ 0 ∷ []
 
-leadRight : ℕ → Bool
-leadRight c = oneOf leadingCodes c || not (leads (rowOf c))
-
-leads-right : below leadRight codes ≡ true
-unfolding leadRight oneOf leads text same rowOf rows
+leads-right : below (λ c. oneOf leadingCodes c || not (leads (rowOf c))) codes ≡ true
+unfolding oneOf leads text same rowOf rows
 leads-right = refl
 
-goes-on : (code : ℕ) → code < codes → NoneOf leadingCodes code → forbidden (rowOf code) ≡ false → (n place : ℕ)
+goes-next : (code : ℕ) → code < codes → NoneOf leadingCodes code → forbidden (rowOf code) ≡ false → (n place : ℕ)
     → followers (actionOf code) n place ≡ (place + 1) ∷ (place + 1) ∷ []
-unfolding actionOf leadRight
-goes-on code coded none h =
-    at-code GoesOn goes-rows code
-    (not-true _ (sym (ap (λ (b : Bool). b || not (leads (rowOf code))) (none-one leadingCodes code none)) ∙ at-below leadRight codes leads-right code coded)) h
+unfolding actionOf
+goes-next code coded none h =
+    at-code NextRow next-rows code (not-true _ (elsewhere leadingCodes (λ k. not (leads (rowOf k))) codes leads-right code coded none)) h
 
 -- ---- a test asked of all that may follow
 
@@ -201,4 +189,4 @@ module _ (test : ℕ → Bool) (code n place : ℕ) where
       ∙ at-arm 45 ((place + 1) ∷ n ∷ []) e (jumpc-followers n place)
 
   pub asked-on : code < codes → NoneOf leadingCodes code → forbidden (rowOf code) ≡ false → test (place + 1) ≡ asked
-  asked-on coded none h = twice (place + 1) ∙ ap (all test) (sym (goes-on code coded none h n place))
+  asked-on coded none h = twice (place + 1) ∙ ap (all test) (sym (goes-next code coded none h n place))

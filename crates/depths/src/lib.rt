@@ -4,7 +4,6 @@ use rules::DepthRefusal;
 use rules::codes;
 use rules::sizes;
 ghost use mathlib.Core.Path.{_≡_};
-ghost use mathlib.Core.Bool.{false};
 ghost use Prim.Native.Nat.{_≤_, _<_};
 ghost use lib.ListN.{length};
 ghost use Rattle.rules.specs.Lists.{all};
@@ -13,7 +12,7 @@ ghost use Rattle.rules.specs.Table.{program, codeOf};
 ghost use Rattle.rules.specs.DepthList.{followers, forbidden, allowed, listed, ruleOf, rule, firstFailing, check};
 ghost use Rattle.depths.specs.Judged.{Known, Judgeable};
 
-// Whether the instruction is forbidden: where it goes on, or where SP is after it, hangs on a value.
+// Whether the instruction is forbidden in a program with a depth list.
 fn is_forbidden(code: usize) -> bool
     ensures { λ r. ⌜ r ≡ forbidden (rowOf code) ⌝ }
 {
@@ -69,8 +68,8 @@ fn are_listed(depths: &[u16], depth: usize, code: usize, operand: u32, place: us
     }
 }
 
-// Whether the rule of a place with that depth holds.
-fn is_rule_kept(depths: &[u16], n: usize, instruction: u64, place: usize, depth: u16) -> bool
+// Whether a place with that depth passes its rule.
+fn passes_rule(depths: &[u16], n: usize, instruction: u64, place: usize, depth: u16) -> bool
     requires { ⌜ Known (codeOf instruction) × (place < length (now depths)) ⌝ }
     ensures { λ r. ⌜ r ≡ ruleOf (length (now (depths .entry))) n (now (depths .entry)) instruction place depth ⌝ }
 {
@@ -99,7 +98,7 @@ fn first_failing(table: &[u64], count: usize, n: usize, depths: &[u16]) -> usize
 {
     let mut place = 0;
     while place < count {
-        if !is_rule_kept(depths, n, table[place], place, depths[place]) {
+        if !passes_rule(depths, n, table[place], place, depths[place]) {
             return place;
         }
         place += 1;

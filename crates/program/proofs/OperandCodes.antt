@@ -1,15 +1,16 @@
 -- The codes that have an operand are ten; every other code has none. Assumes nothing.
 use Prim.Native.Nat.{ℕ, _≤_}
-use mathlib.Core.Path.{_≡_, refl, sym, ap, _∙_}
+use mathlib.Core.Path.{_≡_, refl, ap}
 use mathlib.Core.Bool.{Bool, true, false, _||_, false≢true}
 use mathlib.Core.List.{List, [], _∷_}
-use lib.Dec.{eqb, ltb}
+use lib.Dec.{ltb}
 use lib.ListN.{List·getD-eq-default}
-use borrow.Author.Tests.{ltb-true, ltb-false, ne-eqb}
+use borrow.Author.Tests.{ltb-true, ltb-false}
 use Rattle.rules.specs.Instructions.{Row, rows, rowOf, kindOf, codes}
 use Rattle.rules.specs.declared.Kind.{Kind}
 use Rattle.rules.specs.declared.Kind.the-variants.{Bare, Immediate, Pattern, Offset, Target, Character}
-use Rattle.rules.proofs.Tests.{by-test, below, at-below}
+use Rattle.rules.proofs.Tests.{by-test, below}
+use Rattle.program.proofs.OneOf.{oneOf, NoneOf, elsewhere}
 
 isBare : Kind → Bool
 isBare Bare = true
@@ -28,30 +29,12 @@ bare-is Offset h = absurd (false≢true h)
 bare-is Target h = absurd (false≢true h)
 bare-is Character h = absurd (false≢true h)
 
--- one of the numbers
-unfoldable pub oneOf : List ℕ → ℕ → Bool
-oneOf [] c = false
-oneOf (x ∷ xs) c = eqb c x || oneOf xs c
-
 -- the codes with an operand, the last first
 abbrev pub operandCodes : List ℕ
 operandCodes = 52 ∷ 49 ∷ 47 ∷ 45 ∷ 44 ∷ 43 ∷ 42 ∷ 39 ∷ 2 ∷ 1 ∷ []
 
--- none of the numbers, as the `_` of a match has it
-abbrev pub NoneOf : List ℕ → ℕ → Type 0
-NoneOf [] c = Unit {0}
-NoneOf (x ∷ xs) c = NoneOf xs c × (c ≡ x → ⊥)
-
-pub none-one : (l : List ℕ) (c : ℕ) → NoneOf l c → oneOf l c ≡ false
-unfolding oneOf
-none-one [] c n = refl
-none-one (x ∷ xs) c n = rw (ne-eqb c x (n .1), none-one xs c (n .0))
-
-codeRight : ℕ → Bool
-codeRight c = oneOf operandCodes c || isBare (kindOf c)
-
-codes-right : below codeRight codes ≡ true
-unfolding codeRight oneOf isBare kindOf rowOf rows
+codes-right : below (λ c. oneOf operandCodes c || isBare (kindOf c)) codes ≡ true
+unfolding oneOf isBare kindOf rowOf rows
 codes-right = refl
 
 past-bare : (c : ℕ) → codes ≤ c → kindOf c ≡ Bare
@@ -59,10 +42,7 @@ unfolding kindOf rowOf rows
 past-bare c h = ap (λ (r : Row). r .kind) (List·getD-eq-default rows _ h)
 
 pub bare-elsewhere : (c : ℕ) → NoneOf operandCodes c → kindOf c ≡ Bare
-unfolding codeRight
 bare-elsewhere c n =
     by-test (ltb c codes)
-    (λ h.
-    bare-is (kindOf c)
-    (sym (ap (λ (b : Bool). b || isBare (kindOf c)) (none-one operandCodes c n)) ∙ at-below codeRight codes codes-right c (ltb-true c codes h)))
+    (λ h. bare-is (kindOf c) (elsewhere operandCodes (λ k. isBare (kindOf k)) codes codes-right c (ltb-true c codes h) n))
     (λ h. past-bare c (ltb-false c codes h))

@@ -1,27 +1,26 @@
 -- Request j: "Accept exactly if ..": a list is accepted where it is acceptable, and only there; and 65 and 66 tell the first place that fails. Assumes nothing.
 use Prim.Native.Nat.{ℕ, _+_, _<_, zero-le}
 use mathlib.Core.Path.{_≡_, refl, sym, ap, subst, _∙_}
-use mathlib.Core.Bool.{Bool, true, false, not, _&&_, _||_, cond, false≢true}
+use mathlib.Core.Bool.{Bool, true, false, not, _&&_, _||_, cond}
 use mathlib.Core.List.{List, [], _∷_}
 use native.Mathlib.Omega.{arith}
 use lib.Dec.{leb, ltb, eqb}
-use lib.ListN.{length, getD}
+use lib.ListN.{length}
 use borrow.Author.Tests.{leb-true, le-leb, ltb-true, lt-ltb, eqb-true, eqb-false, eq-eqb, ne-eqb, not-true}
 use Rattle.rules.specs.Lists.{all, every}
 use Rattle.rules.specs.Sizes.{maxCells, notReached}
-use Rattle.rules.specs.Instructions.{rowOf, actionOf}
-use Rattle.rules.specs.Table.{Program, codeOf, operandOf, soundTable}
-use Rattle.rules.specs.DepthList.{depthAfter, followers, forbidden, allowed, listed, ruleTests, ruleOf, rule, firstFailing, acceptIf, check}
+use Rattle.rules.specs.Table.{Program, soundTable}
+use Rattle.rules.specs.DepthList.{allowed, listed, ruleTests, rule, firstFailing, acceptIf, check}
 use Rattle.rules.specs.Numbers.{depthNumber, numberOfChecked, placeOfChecked}
 use Rattle.rules.specs.declared.DepthRefusal.{DepthRefusal}
 use Rattle.rules.specs.declared.DepthRefusal.the-variants.{UnsoundTable, OutsideCells, ListLength, ForbiddenInstruction, RuleFailed}
 use Rattle.rules.specs.declared.Checked.{Checked}
 use Rattle.rules.specs.declared.Checked.the-variants.{Accepted, NotAccepted}
-use Rattle.rules.proofs.Tests.{by-test, and-left, and-right, every-at}
+use Rattle.rules.proofs.Tests.{by-test, never, and-left, and-right, every-at}
 use Rattle.rules.proofs.Enough.{enough-le, le-enough}
 use Rattle.rules.proofs.Failing.{IsFirst, is-first, none-fails, all-pass}
 use Rattle.promises.specs.Each.{Each}
-use Rattle.promises.specs.Delivered.{depthAt, HasDepth, OwnRule, instructionAt, Acceptable, FirstOf}
+use Rattle.promises.specs.Delivered.{depthAt, HasDepth, actionAt, operandAt, AllowedAt, RuleAt, Acceptable, FirstNot}
 
 -- ---- the tests, and what they say
 
@@ -48,30 +47,38 @@ module _ (p : Program) (depths : List ℕ) (depth : ℕ) where
   have-all [] h = refl
   have-all (x ∷ l) h = rw (has-listed x (h .0), have-all l (h .1)) refl
 
-module _ (p : Program) (n : ℕ) (depths : List ℕ) (w place depth : ℕ) where
+module _ (p : Program) (n : ℕ) (depths : List ℕ) (place : ℕ) where
   abbrev tests : List Bool
-  tests = ruleTests (p .count) n depths (actionOf (codeOf w)) (operandOf w) place depth
+  tests = ruleTests (p .count) n depths (actionAt p place) (operandAt p place) place (depthAt depths place)
 
-  abbrev Own : Type 0
-  Own = OwnRule p n depths (actionOf (codeOf w)) (operandOf w) place depth
-
-  rule-own : (depth ≡ notReached → ⊥) → ruleOf (p .count) n depths w place depth ≡ true → Own
-  rule-own some h =
-      let passed : every tests ≡ true = sym (ap (λ (b : Bool). b || every tests) (ne-eqb depth notReached some)) ∙ h in
+  rule-own : rule p n depths place ≡ true → RuleAt p n depths place
+  unfolding rule
+  rule-own h some =
+      let passed : every tests ≡ true = sym (ap (λ (b : Bool). b || every tests) (ne-eqb (depthAt depths place) notReached some)) ∙ h in
       record {
-        enough = enough-le _ depth (every-at tests 0 passed);
+        enough = enough-le _ (depthAt depths place) (every-at tests 0 passed);
         low = ltb-true _ n (every-at tests 1 passed);
         follow = all-have p depths _ _ (every-at tests 2 passed);
       }
 
-  own-rule : ((depth ≡ notReached → ⊥) → Own) → ruleOf (p .count) n depths w place depth ≡ true
+  own-rule : RuleAt p n depths place → rule p n depths place ≡ true
+  unfolding rule
   own-rule own =
-      by-test (eqb depth notReached)
+      by-test (eqb (depthAt depths place) notReached)
       (λ e. ap (λ (b : Bool). b || every tests) e)
       (λ e.
-      let o : Own = own (eqb-false depth notReached e) in
+      let o = own (eqb-false (depthAt depths place) notReached e) in
       ap (λ (b : Bool). b || every tests) e
-      ∙ rw (le-enough _ depth (o .enough), lt-ltb _ n (o .low), have-all p depths _ _ (o .follow)) refl)
+      ∙ rw (le-enough _ (depthAt depths place) (o .enough), lt-ltb _ n (o .low), have-all p depths _ _ (o .follow)) refl)
+
+module _ (p : Program) (place : ℕ) where
+  allowed-at : allowed p place ≡ true → AllowedAt p place
+  unfolding allowed
+  allowed-at h = not-true _ h
+
+  at-allowed : AllowedAt p place → allowed p place ≡ true
+  unfolding allowed
+  at-allowed h = ap not h
 
 -- ---- "Accept exactly if"
 
@@ -83,7 +90,7 @@ passed true e place d q = (refl, q)
 passed false e place d q = not-accepted e place q
 
 pub accepted-acceptable : (p : Program) (n : ℕ) (depths : List ℕ) → check p n depths ≡ Accepted → Acceptable p n depths
-unfolding check allowed rule
+unfolding check
 accepted-acceptable p n depths q =
     let a = passed _ _ _ _ q in
     let b = passed _ _ _ _ (a .1) in
@@ -96,17 +103,17 @@ accepted-acceptable p n depths q =
       some = leb-true _ _ (and-left (leb 1 n) (leb n maxCells) (b .0));
       few = leb-true _ _ (and-right (leb 1 n) (leb n maxCells) (b .0));
       long = eqb-true _ _ (c .0);
-      allows = λ k h. not-true _ (none-fails (allowed p) (p .count) (eqb-true _ _ (d .0)) k h);
+      allows = λ k h. allowed-at p k (none-fails (allowed p) (p .count) (eqb-true _ _ (d .0)) k h);
       start = listed-has p depths 0 0 (e .0);
-      rules = λ k h some. rule-own p n depths (instructionAt p k) k (depthAt depths k) some (none-fails (rule p n depths) (p .count) (eqb-true _ _ (f .0)) k h);
+      rules = λ k h. rule-own p n depths k (none-fails (rule p n depths) (p .count) (eqb-true _ _ (f .0)) k h);
     }
 
 pub acceptable-accepted : (p : Program) (n : ℕ) (depths : List ℕ) → Acceptable p n depths → check p n depths ≡ Accepted
-unfolding check allowed rule
+unfolding check
 acceptable-accepted p n depths a =
-    let allows : firstFailing (allowed p) (p .count) 0 ≡ p .count = all-pass (allowed p) (p .count) (λ k h. ap not (a .allows k h)) in
+    let allows : firstFailing (allowed p) (p .count) 0 ≡ p .count = all-pass (allowed p) (p .count) (λ k h. at-allowed p k (a .allows k h)) in
     let rules : firstFailing (rule p n depths) (p .count) 0 ≡ p .count =
-    all-pass (rule p n depths) (p .count) (λ k h. own-rule p n depths (instructionAt p k) k (depthAt depths k) (a .rules k h)) in
+    all-pass (rule p n depths) (p .count) (λ k h. own-rule p n depths k (a .rules k h)) in
     rw (
       a .table,
       le-leb 1 n (a .some),
@@ -120,11 +127,11 @@ acceptable-accepted p n depths a =
 -- ---- "both with their first place"
 
 -- the six tests in their order, with the places that the fourth and the last are told with
-abbrev inOrder : (table cells length allows start rules : Bool) (forbidden failing : ℕ) → Checked
-inOrder table cells length allows start rules forbidden failing =
+abbrev inOrder : (table cells long allows start rules : Bool) (forbidden failing : ℕ) → Checked
+inOrder table cells long allows start rules forbidden failing =
     acceptIf table UnsoundTable 0
     (acceptIf cells OutsideCells 0
-    (acceptIf length ListLength 0
+    (acceptIf long ListLength 0
     (acceptIf allows ForbiddenInstruction forbidden (acceptIf start RuleFailed 0 (acceptIf rules RuleFailed failing Accepted)))))
 
 other : {A : Type 0} (d : Checked) (e : DepthRefusal) (k : ℕ) → d ≡ NotAccepted e k → (numberOfChecked d ≡ depthNumber e → ⊥) → A
@@ -148,13 +155,19 @@ by-rule true true true true false f i j k q = sym (ap placeOfChecked q)
 by-rule true true true true true false i j k q = (refl, ap placeOfChecked q)
 by-rule true true true true true true i j k q = other _ _ k q (λ z. omega (arith, z))
 
-first-of : (p : Program) (test : ℕ → Bool) (k : ℕ) → eqb (firstFailing test (p .count) 0) (p .count) ≡ false → firstFailing test (p .count) 0 ≡ k
-    → FirstOf p test k
-first-of p test k h q =
+-- the first that fails a test is the first at which what the test asks for does not hold
+first-of : (p : Program) (Holds : (place : ℕ) → Type 0) (test : ℕ → Bool) (k : ℕ) → ((j : ℕ) → test j ≡ true → Holds j) → ((j : ℕ) → Holds j → test j ≡ true)
+    → eqb (firstFailing test (p .count) 0) (p .count) ≡ false → firstFailing test (p .count) 0 ≡ k → FirstNot p Holds k
+first-of p Holds test k to from h q =
     let first : IsFirst test 0 (0 + p .count) (firstFailing test (p .count) 0) = is-first test (p .count) 0 in
     let not-all : firstFailing test (p .count) 0 ≡ p .count → ⊥ = eqb-false _ _ h in
     let low : firstFailing test (p .count) 0 < p .count = omega (arith, not-all, first .within) in
-    subst (FirstOf p test) q (record { inside = low; fails = first .fails (omega (arith, low)); before = λ j l. first .before j zero-le l })
+    subst (FirstNot p Holds) q
+    (record {
+      inside = low;
+      fails = λ holds. never (sym (from _ holds) ∙ first .fails (omega (arith, low)));
+      before = λ j l. to j (first .before j zero-le l);
+    })
 
 module _ (p : Program) (n : ℕ) (depths : List ℕ) (place : ℕ) where
   abbrev forbiddenAt : ℕ
@@ -164,22 +177,31 @@ module _ (p : Program) (n : ℕ) (depths : List ℕ) (place : ℕ) where
   failingAt = firstFailing (rule p n depths) (p .count) 0
 
   -- the place of 65 is the first with a forbidden instruction
-  pub first-forbidden : check p n depths ≡ NotAccepted ForbiddenInstruction place → FirstOf p (allowed p) place
+  pub first-forbidden : check p n depths ≡ NotAccepted ForbiddenInstruction place → FirstNot p (AllowedAt p) place
   unfolding check
   first-forbidden q =
       let from =
       by-forbidden (soundTable p) (leb 1 n && leb n maxCells) (eqb (length depths) (p .count)) (eqb forbiddenAt (p .count)) (listed (p .count) depths 0 0)
       (eqb failingAt (p .count)) forbiddenAt failingAt place q in
-      first-of p (allowed p) place (from .0) (from .1)
+      first-of p (AllowedAt p) (allowed p) place (allowed-at p) (at-allowed p) (from .0) (from .1)
 
-  -- the place of 66 is 0 where place 0 has not depth 0, and else the first whose rule fails
-  pub first-failing : check p n depths ≡ NotAccepted RuleFailed place → cond (listed (p .count) depths 0 0) (FirstOf p (rule p n depths) place) (place ≡ 0)
+  -- where 66 comes from, by whether place 0 has depth 0
+  abbrev From : Bool → Type 0
+  From b = cond b ((eqb failingAt (p .count) ≡ false) × (failingAt ≡ place)) (place ≡ 0)
+
+  from-rule : check p n depths ≡ NotAccepted RuleFailed place → From (listed (p .count) depths 0 0)
   unfolding check
-  first-failing q =
-      by-start (listed (p .count) depths 0 0)
-      (by-rule (soundTable p) (leb 1 n && leb n maxCells) (eqb (length depths) (p .count)) (eqb forbiddenAt (p .count)) (listed (p .count) depths 0 0)
-      (eqb failingAt (p .count)) forbiddenAt failingAt place q)
-    where
-      by-start : (b : Bool) → cond b ((eqb failingAt (p .count) ≡ false) × (failingAt ≡ place)) (place ≡ 0) → cond b (FirstOf p (rule p n depths) place) (place ≡ 0)
-      by-start true from = first-of p (rule p n depths) place (from .0) (from .1)
-      by-start false from = from
+  from-rule q =
+      by-rule (soundTable p) (leb 1 n && leb n maxCells) (eqb (length depths) (p .count)) (eqb forbiddenAt (p .count)) (listed (p .count) depths 0 0)
+      (eqb failingAt (p .count)) forbiddenAt failingAt place q
+
+  -- the place of 66 is the first whose rule fails, where place 0 has depth 0
+  pub first-failing : check p n depths ≡ NotAccepted RuleFailed place → HasDepth p depths 0 0 → FirstNot p (RuleAt p n depths) place
+  first-failing q start =
+      let from : From true = subst From (has-listed p depths 0 0 start) (from-rule q) in
+      first-of p (RuleAt p n depths) (rule p n depths) place (rule-own p n depths) (own-rule p n depths) (from .0) (from .1)
+
+  -- and else it is 0
+  pub failing-start : check p n depths ≡ NotAccepted RuleFailed place → (HasDepth p depths 0 0 → ⊥) → place ≡ 0
+  failing-start q start =
+      by-test (listed (p .count) depths 0 0) (λ e. absurd (start (listed-has p depths 0 0 e))) (λ e. subst From e (from-rule q))

@@ -30,6 +30,7 @@ use Rattle.rules.specs.declared.Ending.the-variants.{Halted, LimitReached, Stop
 use Rattle.rules.specs.declared.Begun.the-variants.{Ready}
 use Rattle.rules.specs.declared.Checked.the-variants.{Accepted}
 use Rattle.rules.proofs.Runs.{run-long}
+use Rattle.rules.proofs.Spares.{Spares, spares-fitting}
 use Rattle.promises.specs.Unbounded.{Unbounded, unmoved, decided}
 use Rattle.promises.specs.Series.{Request, step, run, State, Session, stateOf, series, begin, left, reset as byReset, ahead, freshRun, Promised}
 use Rattle.promises.specs.Delivered.{Acceptable, Reached, meets, AsListed}
@@ -38,9 +39,9 @@ use Rattle.promises.proofs.Runs.{Because, IsItsSteps, run-is-its-steps}
 use Rattle.promises.proofs.Demand3Reset.{reset-accepted}
 use Rattle.promises.proofs.Demand3.{demand3}
 use Rattle.promises.proofs.Acceptable.{accepted-acceptable}
-use Rattle.promises.proofs.OnList.{Spared, fitting-spared, OnList, judged-spared, moved-on}
+use Rattle.promises.proofs.OnList.{OnList, judged-spared, moved-on}
 
-carried-spared : (r : Registers) (m : Memory) (d : Decision) → Spared d → meets (numberOfStep (carried r m d .answer)) ≡ false
+carried-spared : (r : Registers) (m : Memory) (d : Decision) → Spares meets d → meets (numberOfStep (carried r m d .answer)) ≡ false
 carried-spared r m (Does e) h = refl
 carried-spared r m (Refuses x) h = h
 
@@ -87,7 +88,7 @@ module _ (p : Program) (m : Memory) (depths : List ℕ) (accepts : check p (leng
       let y : Unbounded = freshRun p x s in
       ap (λ (t : Stepped). meets (numberOfStep (t .answer))) (promised qs .next)
       ∙ carried-spared (s .registers) (s .memory) (inHistory (s .registers) (decided p y))
-      (fitting-spared (roomFor (s .registers)) HistoryFull (decided p y) refl
+      (spares-fitting meets (roomFor (s .registers)) HistoryFull (decided p y) refl
       (judged-spared p depths (others (y .registers)) (on-run s) (y .cells) (length (y .output))))
 
   run-spared : (qs : List Request) (limit : ℕ) (b : Bool) → leb limit maxLimit ≡ b
@@ -111,6 +112,6 @@ module _ (p : Program) (m : Memory) (depths : List ℕ) (accepts : check p (leng
         step = step-spared qs;
         run = λ limit. run-spared qs limit (leb limit maxLimit) refl;
         passes =
-            λ limit k h.
+            λ k.
             subst (λ (t : Session). Reached p depths (stateOf t)) (series-then p qs (replicate k step) (begin o)) (reached (qs ++ replicate k step));
       }

@@ -28,7 +28,7 @@ pub mod Dwells
 -- Request g: how many steps can be taken back.
 pub mod TakesBack
 -- Request j: the depth list that comes with a program.
-pub mod Moves
+pub mod Told
 pub mod Acceptable
 pub mod OnList
 pub mod Delivered

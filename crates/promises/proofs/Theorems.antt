@@ -92,9 +92,9 @@ use Rattle.rules.proofs.Records.{steps-cut}
 
 use Rattle.promises.proofs.Acceptable.{accepted-acceptable, acceptable-accepted}
 -- "65 a forbidden instruction, 66 a failed depth rule, both with their first place"
-use Rattle.promises.proofs.Acceptable.{first-forbidden, first-failing}
--- what an instruction needs and where SP is after it, by its row: an accepted step asks for that and leaves that
-use Rattle.promises.proofs.Moves.{decided-told}
+use Rattle.promises.proofs.Acceptable.{first-forbidden, first-failing, failing-start}
+-- what an instruction needs, where SP is after it and what may follow, by its row: so an accepted step has it, of every instruction that is not forbidden
+use Rattle.promises.proofs.Told.{step-told}
 -- "From a reset, no run of an accepted program meets 2, 3 or 7. Each place such a run reaches has SP as its listed depth."
 use Rattle.promises.proofs.Delivered.{as-listed}
 use Rattle.rules.specs.Deliveries.{all-judged}

@@ -1,9 +1,8 @@
 -- What a step decides does not hang on H, U or the kept number, but for 8, which is asked last. So a machine decides as one of no history does, and then asks
 -- for room. Assumes nothing.
 use Prim.Native.Nat.{ℕ, _-_}
-use mathlib.Core.Path.{_≡_, refl, sym, ap, ap₂, _∙_}
-use mathlib.Core.Bool.{Bool, true, false, not}
-use native.Mathlib.Omega.{arith}
+use mathlib.Core.Path.{_≡_, refl, ap, ap₂, subst, _∙_}
+use mathlib.Core.Bool.{Bool, true, false, not, true≢false}
 use lib.Dec.{eqb, ltb}
 use lib.ListN.{getD}
 use Rattle.rules.specs.Instructions.{Row, rows, actionOf}
@@ -13,16 +12,16 @@ use Rattle.rules.specs.State.{others}
 use Rattle.rules.specs.Numbers.{machineNumber}
 use Rattle.rules.specs.Decide.{demand, enough, decide}
 use Rattle.rules.specs.Commit.{roomOn, roomFor}
-use Rattle.rules.specs.Step.{decideAt, fitting, inStack, inOutput, inHistory, fitted, judged}
+use Rattle.rules.specs.Step.{decideAt, inStack, inOutput, inHistory, fitted, judged}
 use Rattle.rules.specs.declared.Cell.{Cell}
 use Rattle.rules.specs.declared.Registers.{Registers}
 use Rattle.rules.specs.declared.Effect.{Effect}
 use Rattle.rules.specs.declared.Decision.{Decision}
 use Rattle.rules.specs.declared.Decision.the-variants.{Does, Refuses}
-use Rattle.rules.specs.declared.MachineRefusal.{MachineRefusal}
 use Rattle.rules.specs.declared.MachineRefusal.the-variants.{AlreadyHalted, AtEnd, TooFewValues, WrongTag, NoResult, BadAddress, StackFull, HistoryFull, OutputFull}
 use Rattle.rules.proofs.Rows.{EachRow, end, _then_, at-code}
-use Rattle.rules.proofs.FairEffects.{refuses-not, fitting-does}
+use Rattle.rules.proofs.FairEffects.{fitting-does}
+use Rattle.rules.proofs.Spares.{Spares, spares-demand, spares-fitting}
 
 -- ---- each row: the address and the effect are the same whatever H, U and the kept number are
 
@@ -81,59 +80,37 @@ room-does r d e q = fitting-does (roomFor r) HistoryFull d e q
 
 -- ---- with H = 0 there is no 8
 
-abbrev Spares : Decision → Type 0
-Spares (Does e) = Unit {0}
-Spares (Refuses x) = x ≡ HistoryFull → ⊥
+abbrev isFull : ℕ → Bool
+isFull k = eqb k (machineNumber HistoryFull)
 
--- another number is another refusal
-other : (x : MachineRefusal) → (machineNumber x ≡ 8 → ⊥) → x ≡ HistoryFull → ⊥
-other x h q = h (ap machineNumber q)
-
-spares-demand : (b : Bool) (x : MachineRefusal) (d : Decision) → (machineNumber x ≡ 8 → ⊥) → Spares d → Spares (demand b x d)
-spares-demand true x d h k = k
-spares-demand false x d h k = other x h
-
-spares-fitting : (test : Effect → Bool) (x : MachineRefusal) (d : Decision) → (machineNumber x ≡ 8 → ⊥) → Spares d → Spares (fitting test x d)
-spares-fitting test x (Does e) h k = spares-demand (test e) x (Does e) h tt
-spares-fitting test x (Refuses y) h k = k
-
-spares-four : (a b c d : Bool) (e : Effect)
-    → Spares (demand a TooFewValues (demand b WrongTag (demand c NoResult (demand d BadAddress (Does e)))))
-spares-four a b c d e =
-    spares-demand a TooFewValues _ (λ z. omega (arith, z))
-    (spares-demand b WrongTag _ (λ z. omega (arith, z))
-    (spares-demand c NoResult _ (λ z. omega (arith, z)) (spares-demand d BadAddress (Does e) (λ z. omega (arith, z)) tt)))
-
-spares-decided : (r : Registers) (c : Cells) (place : ℕ) → Spares (decideAt r c place)
+spares-decided : (r : Registers) (c : Cells) (place : ℕ) → Spares isFull (decideAt r c place)
 unfolding decideAt decide
 spares-decided r c place =
     let n : ℕ = operandOf place in
     let a = actionOf (codeOf place) in
     let vb : Cell = cellAt c (record { 0 = r .sp - 2 }) in
     let vt : Cell = cellAt c (record { 0 = r .sp - 1 }) in
-    spares-four (enough (a .needs n) (r .sp)) (a .takes (vb .tag) (vt .tag)) (a .results (vb .bits) (vt .bits)) (a .reaches r n vb vt)
-    (a .effect r c n vb vt)
+    spares-demand isFull (enough (a .needs n) (r .sp)) TooFewValues _ refl
+    (spares-demand isFull (a .takes (vb .tag) (vt .tag)) WrongTag _ refl
+    (spares-demand isFull (a .results (vb .bits) (vt .bits)) NoResult _ refl
+    (spares-demand isFull (a .reaches r n vb vt) BadAddress (Does (a .effect r c n vb vt)) refl tt)))
 
-spares-room : (r : Registers) (d : Decision) → Spares d → Spares (inHistory (others r) d)
+spares-room : (r : Registers) (d : Decision) → Spares isFull d → Spares isFull (inHistory (others r) d)
 spares-room r (Does e) h = tt
 spares-room r (Refuses x) h = h
 
 pub never-full : (p : Program) (r : Registers) (c : Cells) (size : ℕ) → judged p (others r) c size ≡ Refuses HistoryFull → ⊥
 unfolding judged
-never-full p r c size q = spared (judged p (others r) c size) spares q
+never-full p r c size q = true≢false (subst (Spares isFull) q spares)
   where
     decision : Decision
     decision = decideAt (others r) c (getD (p .places) (r .pc) 0)
 
-    spares : Spares (judged p (others r) c size)
+    spares : Spares isFull (judged p (others r) c size)
     spares =
-        spares-demand (eqb (r .halt) 0) AlreadyHalted (demand (not (eqb (r .pc) (p .count))) AtEnd (fitted (others r) size decision)) (λ z. omega (arith, z))
-        (spares-demand (not (eqb (r .pc) (p .count))) AtEnd (fitted (others r) size decision) (λ z. omega (arith, z))
+        spares-demand isFull (eqb (r .halt) 0) AlreadyHalted (demand (not (eqb (r .pc) (p .count))) AtEnd (fitted (others r) size decision)) refl
+        (spares-demand isFull (not (eqb (r .pc) (p .count))) AtEnd (fitted (others r) size decision) refl
         (spares-room r (inOutput r size (inStack r decision))
-        (spares-fitting (λ e. roomOn size (r .written) (e .shows)) OutputFull (inStack r decision) (λ z. omega (arith, z))
-        (spares-fitting (λ e. ltb (e .sp) (r .n)) StackFull decision (λ z. omega (arith, z))
+        (spares-fitting isFull (λ e. roomOn size (r .written) (e .shows)) OutputFull (inStack r decision) refl
+        (spares-fitting isFull (λ e. ltb (e .sp) (r .n)) StackFull decision refl
         (spares-decided (others r) c (getD (p .places) (r .pc) 0))))))
-
-    spared : (d : Decision) → Spares d → d ≡ Refuses HistoryFull → ⊥
-    spared (Does e) h y = refuses-not HistoryFull e (sym y)
-    spared (Refuses x) h y = let same : x ≡ HistoryFull = cc in h same

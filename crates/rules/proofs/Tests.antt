@@ -19,6 +19,10 @@ pub by-test : {P : Type 0} (b : Bool) → (b ≡ true → P) → (b ≡ false �
 by-test true f g = f refl
 by-test false f g = g refl
 
+-- a test that fails does not hold
+pub never : {A : Type 0} → true ≡ false → A
+never h = absurd (true≢false h)
+
 -- what holds of both branches holds of the one that a test takes
 pub either : {A : Type 0} (P : A → Type 0) (b : Bool) {x y : A} → P x → P y → P (cond b x y)
 either P true h k = h

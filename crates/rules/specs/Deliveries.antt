@@ -3,13 +3,13 @@
 use Prim.Native.Nat.{ℕ, zero, suc, _+_, _-_}
 use Prim.Native.String.{String}
 use mathlib.Core.Path.{_≡_, refl}
-use mathlib.Core.Bool.{Bool, true, _&&_}
+use mathlib.Core.Bool.{Bool, true, not, _&&_}
 use mathlib.Core.List.{List, [], _∷_}
 use lib.ListN.{replicate}
 use lib.Dec.{eqb}
 use Rattle.rules.specs.Lists.{every}
 use Rattle.rules.specs.Sizes.{maxProgram, notReached}
-use Rattle.rules.specs.Table.{Program, program}
+use Rattle.rules.specs.Table.{Program, program, placeOf}
 use Rattle.rules.specs.Numbers.{numberOfChecked, placeOfChecked}
 use Rattle.rules.specs.DepthList.{depthAfter, followers, forbidden, allowed, listed, rule, firstFailing, check}
 use Rattle.rules.specs.Examples.{programOf, holds}
@@ -24,22 +24,20 @@ told n source depths number place = gives (programOf source) n depths number pla
 abbrev fine : (n : ℕ) → String → List ℕ → Bool
 fine n source depths = told n source depths 0 0
 
--- one too few is not enough, whatever is listed behind it; none are always there
+-- of `STOP X STOP`, with 16 cells: the rule of X holds, with that depth and that of the place behind it
+abbrev keeps : Program → (depth behind : ℕ) → Bool
+keeps p depth behind = rule p 16 (0 ∷ depth ∷ behind ∷ []) 1
+
+-- one too few is not enough, with what it would leave behind it; none are always there
 abbrev tooFew : Program → (needs leaves : ℕ) → Bool
 tooFew p zero leaves = true
-tooFew p (suc k) leaves = gives p 16 (0 ∷ k ∷ leaves ∷ []) 66 1 && gives p 16 (0 ∷ k ∷ (leaves - 1) ∷ []) 66 1
+tooFew p (suc k) leaves = not (keeps p k (leaves - 1))
 
--- of `STOP X STOP`: X needs so many values and leaves so many in their place, the others below them too; and the place behind it has just that depth
+-- X needs so many values and leaves so many in their place, whatever lies below them; and the place behind it has just that depth
 abbrev moves : String → (needs leaves : ℕ) → Bool
 moves source k l =
     let p = programOf source in
-    every
-    (gives p 16 (0 ∷ k ∷ l ∷ []) 0 0
-    ∷ gives p 16 (0 ∷ (k + 3) ∷ (l + 3) ∷ []) 0 0
-    ∷ gives p 16 (0 ∷ k ∷ (l + 1) ∷ []) 66 1
-    ∷ gives p 16 (0 ∷ (k + 1) ∷ l ∷ []) 66 1
-    ∷ tooFew p k l
-    ∷ [])
+    every (keeps p k l ∷ keeps p (k + 3) (l + 3) ∷ not (keeps p k (l + 1)) ∷ tooFew p k l ∷ [])
 
 unfoldable pub deliveries : List Bool
 deliveries =
@@ -58,6 +56,7 @@ deliveries =
     ∷ moves "STOP PUSHSP STOP" 0 1
     ∷ moves "STOP PUSHFBR STOP" 0 1
     ∷ moves "STOP LINK STOP" 0 1
+    -- DUP and SWAP need what they copy and turn
     ∷ moves "STOP DUP STOP" 1 2
     ∷ moves "STOP SWAP STOP" 2 2
     -- two values make one
@@ -102,8 +101,9 @@ deliveries =
     ∷ moves "STOP POPFBR STOP" 1 0
     ∷ moves "STOP WRITECH STOP" 1 0
     ∷ moves "STOP JUMPC 2 STOP" 1 0
+    -- JUMP leaves SP
     ∷ moves "STOP JUMP 2 STOP" 0 0
-    -- ADDSP, of either sign; −2 needs two, and −16 more than there are below N
+    -- ADDSP, of either sign; −2 needs two, and −16 as many as N
     ∷ moves "STOP ADDSP 0 STOP" 0 0
     ∷ moves "STOP ADDSP 4 STOP" 0 4
     ∷ moves "STOP ADDSP -2 STOP" 2 0
@@ -150,6 +150,7 @@ deliveries =
     ∷ told 16 "STOP JSR 0" (0 ∷ []) 64 0
     -- "11 for N outside its range", before 64
     ∷ told 0 "STOP" [] 11 0
+    ∷ told 0 "" [] 11 0
     ∷ told 1_001 "STOP" (0 ∷ []) 11 0
     ∷ told 18446744073709551615 "STOP" (0 ∷ []) 11 0
     ∷ fine 1_000 "STOP ADDSP 999 STOP" (0 ∷ 0 ∷ 999 ∷ [])
@@ -157,10 +158,12 @@ deliveries =
     -- "10" before all
     ∷ gives (program (replicate maxProgram 0) 1_025) 0 [] 10 0
     ∷ gives (program (replicate 1_023 0) 1) 16 (0 ∷ []) 10 0
-    -- a place that nothing leads to may have a depth of N or more, where its depth after is below N
+    ∷ gives (program (placeOf 47 2 ∷ replicate 1_023 0) 1) 16 (0 ∷ []) 10 0
+    -- a place that no place with a depth leads to may have one of N or more, where its depth after is below N
     ∷ fine 2 "STOP ADD STOP" (0 ∷ 2 ∷ 1 ∷ [])
+    ∷ fine 2 "STOP PUSHIMM 1 ADD STOP" (0 ∷ notReached ∷ 2 ∷ 1 ∷ [])
     ∷ told 2 "STOP ADD STOP" (0 ∷ 3 ∷ 2 ∷ []) 66 1
-    -- sums are exact: 65,534 and 2 are not 0, and 65,534 and 1 are no mark
+    -- sums are exact: 65,534 and 2 are not 0; and 65,535 is no depth after
     ∷ told 16 "STOP ADDSP 2 STOP" (0 ∷ 65_534 ∷ 0 ∷ []) 66 1
     ∷ told 16 "STOP PUSHIMM 1 STOP" (0 ∷ 65_534 ∷ notReached ∷ []) 66 1
     -- the first of two places that fail; and a place "not reached" has no rule

@@ -23,17 +23,18 @@ use Rattle.rules.specs.declared.Checked.the-variants.{Accepted, NotAccep
 -- ---- what the table of instructions tells of one: by its operand, its place, its depth and the bits of an INT on top
 
 -- registers of which PC and SP alone are known
-abbrev pub standing : (place depth : ℕ) → Registers
-standing place depth = record { n = 0; h = 0; pc = place; sp = depth; fbr = 0; halt = 0; used = 0; kept = 0; written = 0 }
+abbrev knownAt : (place depth : ℕ) → Registers
+knownAt place depth = record { n = 0; h = 0; pc = place; sp = depth; fbr = 0; halt = 0; used = 0; kept = 0; written = 0 }
 
-abbrev pub effectAt : Action → (operand place depth top : ℕ) → Effect
-effectAt a v place depth top = a .effect (standing place depth) (cells [] []) v (int 0) (int top)
+abbrev effectAt : Action → (operand place depth top : ℕ) → Effect
+effectAt a v place depth top = a .effect (knownAt place depth) (cells [] []) v (int 0) (int top)
 
 -- "its depth after"
 unfoldable pub depthAfter : Action → (operand depth : ℕ) → ℕ
 depthAfter a v depth = effectAt a v 0 depth 0 .sp
 
--- "each place that may follow": PC after it with 0 on top, and with 1. "Both ways of JUMPC count"; of any other they are one place, twice. "STOP has no follower".
+-- "each place that may follow": PC after it with 0 on top, and with 1. "Both ways of JUMPC count"; of any other allowed one they are one place, twice. "STOP has no
+-- follower": where it halts, there is none.
 unfoldable pub followers : Action → (operand place : ℕ) → List ℕ
 followers a v place =
     cond (eqb (effectAt a v place 0 0 .halt) 1) [] (effectAt a v place 0 0 .pc ∷ effectAt a v place 0 1 .pc ∷ [])
@@ -82,7 +83,7 @@ abbrev pub acceptIf : Bool → DepthRefusal → (place : ℕ) → Checked → Ch
 acceptIf test e place d = cond test d (NotAccepted e place)
 
 -- every place of the program passes the test; else a refusal "with [its] first place"
-abbrev pub acceptEach : Program → (ℕ → Bool) → DepthRefusal → Checked → Checked
+abbrev acceptEach : Program → (ℕ → Bool) → DepthRefusal → Checked → Checked
 acceptEach p test e d = acceptIf (eqb (firstFailing test (p .count) 0) (p .count)) e (firstFailing test (p .count) 0) d
 
 -- "10, then 11 for N outside its range, 64 list not of the program's length, 65 a forbidden instruction, 66 a failed depth rule, both with their first place,

@@ -86,7 +86,7 @@ lengths =
     ∷ runs 10 maxLimit 8 (old 1) (zeros 1)
     ∷ runs 10 0 10 (old 1) (zeros 1)
     ∷ runs 31 (maxLimit + 1) 8 (old 2) (old 2)
-    -- "10, then 11 .., 64 .." (02 j): what is told comes before them, and is told 0 with them
+    -- "10, then 11 .., 64 .." (02 j): a told of another length comes before them, and with them it is told 0
     ∷ judges 31 (program [] 1) 0 [] (old 2) (old 2)
     ∷ judges 31 (programOf "STOP") 1 (0 ∷ []) [] []
     ∷ judges 10 (program [] 1) 0 [] (old 1) (zeros 1)

@@ -1,14 +1,13 @@
 -- Each answer behind the tests that were passed before it. Assumes nothing.
 use mathlib.Core.Path.{_≡_, sym, _∙_}
 use mathlib.Core.Bool.{true}
-use native.Mathlib.Omega.{arith}
 use borrow.Author.Needs.{needs}
 use borrow.Author.Tests.{not-true, not-false}
 use denote.Ref.{now}
 use Rattle.rules.specs.Table.{program, soundTable}
 use Rattle.rules.specs.DepthList.{allowed, firstFailing}
-use Rattle.rules.proofs.Table.{table-short, table-long}
 use Rattle.rules.proofs.Failing.{failing-most}
+use Rattle.depths.proofs.Rules.{table-longer}
 use Rattle.depths.proofs.Answers.{Sized, told-table, told-none, told-many, told-length, told-forbidden, told-start, judgeable, told-rule, told-accepted}
 use Rattle.depths.proofs.check.Statement.{statement}
 use Rattle.depths.proofs.check.Tie as tie
@@ -45,9 +44,7 @@ returns-4 : tie.Need-returns-4
 returns-4 c = told-length _ _ _ (sound (c .before .before .before)) (c .before .before .if2 .left) (c .before .if3 .left) (c .if4 .taken)
 
 first-forbidden-requires : tie.Need-first-forbidden-requires
-first-forbidden-requires c κs =
-    let table = sized c .table in
-    omega (arith, table-short _ table, table-long _ table)
+first-forbidden-requires c κs = table-longer _ (sized c .table)
 
 returns-5 : tie.Need-returns-5
 returns-5 c = told-forbidden _ _ _ (sized (c .before .before)) _ (c .before .first-forbidden .ensures) (c .if5 .taken)

@@ -5,11 +5,10 @@ use mathlib.Core.Bool.{true, false}
 use native.Mathlib.Omega.{arith}
 use borrow.Author.Tests.{not-true, not-false}
 use denote.Ref.{now}
-use lib.ListN.{length}
 use Rattle.rules.specs.Table.{program}
 use Rattle.rules.specs.DepthList.{rule, firstFailing}
 use Rattle.rules.proofs.Failing.{failing-end, failing-here, failing-next}
-use Rattle.depths.proofs.Kept.{rule-read, known-at, table-longer}
+use Rattle.depths.proofs.Rules.{rule-read, known-at, table-longer}
 use Rattle.depths.proofs.first_failing.Statement.{statement}
 use Rattle.depths.proofs.first_failing.Tie as tie
 
@@ -26,24 +25,24 @@ loop-holds c =
     let same : a .count ≡ a .count - 0 = omega arith in
     (omega arith, ap (λ (k : ℕ). firstFailing (rule (program (now (a .table)) (a .count)) (a .n) (now (a .depths))) k 0) same)
 
-mul-is-rule-kept : tie.Need-mul-is-rule-kept Inv-loop μ-loop
-mul-is-rule-kept c =
+mul-passes-rule : tie.Need-mul-passes-rule Inv-loop μ-loop
+mul-passes-rule c =
     let start = c .before .before .before .before in
-    omega (arith, table-longer _ _ (start .pre))
+    omega (arith, table-longer _ (start .pre .table))
 
-shared-slice-read-is-rule-kept : tie.Need-shared-slice-read-is-rule-kept Inv-loop μ-loop
-shared-slice-read-is-rule-kept c =
+shared-slice-read-passes-rule : tie.Need-shared-slice-read-passes-rule Inv-loop μ-loop
+shared-slice-read-passes-rule c =
     let start = c .before .before .before .before .before in
-    omega (arith, table-longer _ _ (start .pre))
+    omega (arith, table-longer _ (start .pre .table))
 
-mul-is-rule-kept-2 : tie.Need-mul-is-rule-kept-2 Inv-loop μ-loop
-mul-is-rule-kept-2 c = omega (arith, c .before .before .before .before .before .pre .long)
+mul-passes-rule-2 : tie.Need-mul-passes-rule-2 Inv-loop μ-loop
+mul-passes-rule-2 c = omega (arith, c .before .before .before .before .before .pre .long)
 
-shared-slice-read-is-rule-kept-2 : tie.Need-shared-slice-read-is-rule-kept-2 Inv-loop μ-loop
-shared-slice-read-is-rule-kept-2 c = omega (arith, c .before .before .before .before .before .before .pre .long)
+shared-slice-read-passes-rule-2 : tie.Need-shared-slice-read-passes-rule-2 Inv-loop μ-loop
+shared-slice-read-passes-rule-2 c = omega (arith, c .before .before .before .before .before .before .pre .long)
 
-is-rule-kept-requires : tie.Need-is-rule-kept-requires Inv-loop μ-loop
-is-rule-kept-requires c κs =
+passes-rule-requires : tie.Need-passes-rule-requires Inv-loop μ-loop
+passes-rule-requires c κs =
     let start = c .before .before .before .before .before .before in
     let v = c .before .before .before .loop in
     (known-at _ _ (start .pre) (v .place) (omega arith), omega (arith, start .pre .long))
@@ -56,7 +55,7 @@ returns c =
     let h : v .place < a .count = omega arith in
     let test = rule (program (now (a .table)) (a .count)) (a .n) (now (a .depths)) in
     let fails : test (v .place) ≡ false =
-    rule-read _ (a .n) _ (start .pre) (v .place) h ∙ sym (c .before .is-rule-kept .ensures) ∙ not-true _ (c .if1 .taken) in
+    rule-read _ (a .n) _ (start .pre) (v .place) h ∙ sym (c .before .passes-rule .ensures) ∙ not-true _ (c .if1 .taken) in
     sym (v .inv .1 ∙ failing-here test (a .count) (v .place) h fails)
 
 add-place : tie.Need-add-place Inv-loop μ-loop
@@ -73,7 +72,7 @@ loop-again c =
     let h : v .place < a .count = omega arith in
     let test = rule (program (now (a .table)) (a .count)) (a .n) (now (a .depths)) in
     let passes : test (v .place) ≡ true =
-    rule-read _ (a .n) _ (start .pre) (v .place) h ∙ sym (c .before .is-rule-kept .ensures) ∙ not-false _ (c .if1 .left) in
+    rule-read _ (a .n) _ (start .pre) (v .place) h ∙ sym (c .before .passes-rule .ensures) ∙ not-false _ (c .if1 .left) in
     (omega arith, v .inv .1 ∙ failing-next test (a .count) (v .place) h passes)
 
 returns-2 : tie.Need-returns-2 Inv-loop μ-loop
@@ -90,11 +89,11 @@ first-failing-spec =
     Inv-loop
     μ-loop
     loop-holds
-    mul-is-rule-kept
-    shared-slice-read-is-rule-kept
-    mul-is-rule-kept-2
-    shared-slice-read-is-rule-kept-2
-    is-rule-kept-requires
+    mul-passes-rule
+    shared-slice-read-passes-rule
+    mul-passes-rule-2
+    shared-slice-read-passes-rule-2
+    passes-rule-requires
     returns
     add-place
     loop-less

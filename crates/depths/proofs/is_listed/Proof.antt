@@ -5,7 +5,7 @@ use borrow.Author.Needs.{needs}
 use borrow.Author.Tests.{le-ltb, lt-ltb}
 use Rattle.rules.specs.Sizes.{notReached}
 use Rattle.rules.specs.DepthList.{listed}
-use Rattle.depths.proofs.Kept.{getD-within}
+use Rattle.depths.proofs.Within.{getD-within}
 use Rattle.depths.proofs.is_listed.Statement.{statement}
 use Rattle.depths.proofs.is_listed.Tie as tie
 

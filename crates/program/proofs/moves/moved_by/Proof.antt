@@ -1,6 +1,6 @@
 -- Assumes nothing.
 use borrow.Author.Needs.{needs}
-use Rattle.program.proofs.ByCode.{adds, takes}
+use Rattle.program.proofs.SpMoves.{adds, takes}
 use Rattle.program.proofs.moves.moved_by.Statement.{statement}
 use Rattle.program.proofs.moves.moved_by.Tie as tie
 

@@ -6,7 +6,7 @@ use Rattle.rules.specs.Instructions.{codes, rows, rowOf, actionOf}
 use Rattle.rules.specs.DepthList.{depthAfter}
 use Rattle.program.specs.Moves.{movesOf}
 use Rattle.program.proofs.NameTable.{none-below}
-use Rattle.program.proofs.ByCode.{stays-past}
+use Rattle.program.proofs.SpMoves.{stays-past}
 use Rattle.program.proofs.moves.moves_of.Statement.{statement}
 use Rattle.program.proofs.moves.moves_of.Tie as tie
 

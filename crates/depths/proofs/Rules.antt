@@ -1,9 +1,8 @@
 -- The rule of a place, test by test, in the numbers that the code has. Assumes nothing.
-use Prim.Native.Nat.{ℕ, zero, suc, _+_, _-_, _≤_, _<_}
-use mathlib.Core.Path.{_≡_, refl, sym, ap, ap₂, _∙_}
+use Prim.Native.Nat.{ℕ, _+_, _-_, _≤_, _<_}
+use mathlib.Core.Path.{_≡_, sym, ap, ap₂, _∙_}
 use mathlib.Core.Bool.{Bool, true, false, _&&_, _||_, and-true}
-use mathlib.Core.List.{List, [], _∷_}
-use native.Mathlib.Nat.{not-suc-le-zero, le-of-suc-le-suc}
+use mathlib.Core.List.{List}
 use native.Mathlib.Omega.{arith}
 use lib.Dec.{ltb}
 use lib.ListN.{length, getD}
@@ -12,7 +11,7 @@ use Rattle.rules.specs.Lists.{all, every}
 use Rattle.rules.specs.Sizes.{notReached}
 use Rattle.rules.specs.Decide.{Action}
 use Rattle.rules.specs.Instructions.{actionOf}
-use Rattle.rules.specs.Table.{Program, codeOf, operandOf}
+use Rattle.rules.specs.Table.{Program, codeOf, operandOf, soundTable}
 use Rattle.rules.specs.DepthList.{depthAfter, followers, allowed, listed, ruleTests, ruleOf, rule}
 use Rattle.program.specs.Moves.{movesOf}
 use Rattle.program.specs.declared.moves.Moves.{Moves}
@@ -20,13 +19,8 @@ use Rattle.depths.specs.Judged.{Known, Judgeable}
 use Rattle.rules.proofs.Table.{table-short, table-long, place-coded}
 use Rattle.rules.proofs.Enough.{le-enough, lt-enough}
 use Rattle.rules.proofs.Failing.{none-fails}
+use Rattle.depths.proofs.Within.{getD-within}
 use Rattle.depths.proofs.Codes.{leaves-after}
-
--- within a list it does not matter what stands past it
-pub getD-within : (l : List ℕ) (i d e : ℕ) → i < length l → getD l i d ≡ getD l i e
-getD-within [] i d e h = absurd (not-suc-le-zero h)
-getD-within (x ∷ l) zero d e h = refl
-getD-within (x ∷ l) (suc i) d e h = getD-within l i d e (le-of-suc-le-suc h)
 
 module _ (count n : ℕ) (depths : List ℕ) (w place depth : ℕ) where
   abbrev does : Action
@@ -90,8 +84,8 @@ module _ (count n : ℕ) (depths : List ℕ) (w place depth : ℕ) where
 
 -- ---- what is known where the rules are asked
 
-pub table-longer : (p : Program) (depths : List ℕ) → Judgeable p depths → p .count ≤ length (p .places)
-table-longer p depths j = omega (arith, table-short p (j .table), table-long p (j .table))
+pub table-longer : (p : Program) → soundTable p ≡ true → p .count ≤ length (p .places)
+table-longer p h = omega (arith, table-short p h, table-long p h)
 
 pub known-at : (p : Program) (depths : List ℕ) → Judgeable p depths → (k : ℕ) → k < p .count → Known (codeOf (getD (p .places) k 0))
 unfolding allowed

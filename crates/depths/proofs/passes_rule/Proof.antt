@@ -2,9 +2,9 @@
 use mathlib.Core.Path.{sym, subst, _∙_}
 use borrow.Author.Needs.{needs}
 use Rattle.depths.specs.Judged.{Known}
-use Rattle.depths.proofs.Kept.{rule-unreached, rule-few, rule-high, rule-follows}
-use Rattle.depths.proofs.is_rule_kept.Statement.{statement}
-use Rattle.depths.proofs.is_rule_kept.Tie as tie
+use Rattle.depths.proofs.Rules.{rule-unreached, rule-few, rule-high, rule-follows}
+use Rattle.depths.proofs.passes_rule.Statement.{statement}
+use Rattle.depths.proofs.passes_rule.Tie as tie
 
 returns : tie.Need-returns
 returns c = rule-unreached _ _ _ _ _ _ (c .if1 .taken)
@@ -55,8 +55,8 @@ returns-4 c =
     ∙ rule-follows _ _ _ _ _ _ (at-code .before .if1 .left) (at-code .before .before .before .pre .0) _ _ (at-code .code-of .ensures)
     (at-moves .before .operand-of .ensures) _ (at-moves .moves-of .ensures) (c .before .before .before .if2 .left) (c .before .if3 .left)
 
-pub is-rule-kept-spec : {M : Type 1} → statement M
-is-rule-kept-spec =
+pub passes-rule-spec : {M : Type 1} → statement M
+passes-rule-spec =
     tie.close
     (tie.spec
     returns
