@@ -9,7 +9,7 @@ use lib.ListN.{length}
 use borrow.Author.Tests.{le-leb, lt-leb, eq-eqb, ne-eqb}
 use Rattle.rules.specs.Sizes.{maxCells}
 use Rattle.rules.specs.Table.{Program, soundTable}
-use Rattle.rules.specs.DepthList.{allowed, listed, rule, firstFailing, check}
+use Rattle.rules.specs.DepthList.{allowedAt, listed, rule, firstFailing, check}
 use Rattle.rules.specs.declared.DepthRefusal.the-variants.{UnsoundTable, OutsideCells, ListLength, ForbiddenInstruction, RuleFailed}
 use Rattle.rules.specs.declared.Checked.the-variants.{Accepted, NotAccepted}
 use Rattle.depths.specs.Judged.{Judgeable}
@@ -45,18 +45,18 @@ module _ (p : Program) (n : ℕ) (depths : List ℕ) where
     long-is : eqb (length depths) (p .count) ≡ true
     long-is = eq-eqb (length depths) (p .count) (z .long)
 
-    pub told-forbidden : (k : ℕ) → k ≡ firstFailing (allowed p) (p .count) 0 → k < p .count → NotAccepted ForbiddenInstruction k ≡ check p n depths
+    pub told-forbidden : (k : ℕ) → k ≡ firstFailing (allowedAt p) (p .count) 0 → k < p .count → NotAccepted ForbiddenInstruction k ≡ check p n depths
     unfolding check
     told-forbidden k q h =
-        rw (z .table, le-leb 1 n (z .some), le-leb n maxCells (z .few), long-is, one-fails (allowed p) (p .count) k q h)
+        rw (z .table, le-leb 1 n (z .some), le-leb n maxCells (z .few), long-is, one-fails (allowedAt p) (p .count) k q h)
         (ap (NotAccepted ForbiddenInstruction) q)
 
-    module _ (allows : firstFailing (allowed p) (p .count) 0 ≡ p .count) where
+    module _ (allows : firstFailing (allowedAt p) (p .count) 0 ≡ p .count) where
       pub judgeable : Judgeable p depths
       judgeable = record { table = z .table; long = z .long; allows = allows }
 
-      allows-is : eqb (firstFailing (allowed p) (p .count) 0) (p .count) ≡ true
-      allows-is = eq-eqb (firstFailing (allowed p) (p .count) 0) (p .count) allows
+      allows-is : eqb (firstFailing (allowedAt p) (p .count) 0) (p .count) ≡ true
+      allows-is = eq-eqb (firstFailing (allowedAt p) (p .count) 0) (p .count) allows
 
       -- place 0, by the list's length or the program's
       start : listed (p .count) depths 0 0 ≡ listed (length depths) depths 0 0

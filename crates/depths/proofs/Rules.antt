@@ -12,7 +12,7 @@ use Rattle.rules.specs.Sizes.{notReached}
 use Rattle.rules.specs.Decide.{Action}
 use Rattle.rules.specs.Instructions.{actionOf}
 use Rattle.rules.specs.Table.{Program, codeOf, operandOf, soundTable}
-use Rattle.rules.specs.DepthList.{depthAfter, followers, allowed, listed, ruleTests, ruleOf, rule}
+use Rattle.rules.specs.DepthList.{depthAfter, followers, allowedAt, listed, ruleTests, ruleOf, rule}
 use Rattle.program.specs.Moves.{movesOf}
 use Rattle.program.specs.declared.moves.Moves.{Moves}
 use Rattle.depths.specs.Judged.{Known, Judgeable}
@@ -88,11 +88,11 @@ pub table-longer : (p : Program) → soundTable p ≡ true → p .count ≤ leng
 table-longer p h = omega (arith, table-short p h, table-long p h)
 
 pub known-at : (p : Program) (depths : List ℕ) → Judgeable p depths → (k : ℕ) → k < p .count → Known (codeOf (getD (p .places) k 0))
-unfolding allowed
+unfolding allowedAt
 known-at p depths j k h =
     record {
       coded = place-coded p (j .table) k h;
-      allows = not-true _ (none-fails (allowed p) (p .count) (j .allows) k h);
+      allows = not-true _ (none-fails (allowedAt p) (p .count) (j .allows) k h);
     }
 
 pub rule-read : (p : Program) (n : ℕ) (depths : List ℕ) → Judgeable p depths → (k : ℕ) → k < p .count

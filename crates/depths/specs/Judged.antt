@@ -6,7 +6,7 @@ use mathlib.Core.List.{List}
 use lib.ListN.{length}
 use Rattle.rules.specs.Instructions.{codes, rowOf}
 use Rattle.rules.specs.Table.{Program, soundTable}
-use Rattle.rules.specs.DepthList.{forbidden, allowed, firstFailing}
+use Rattle.rules.specs.DepthList.{forbidden, allowedAt, firstFailing}
 
 -- of an instruction
 pub record Known (code : ℕ) : Type 0 where
@@ -17,4 +17,4 @@ pub record Known (code : ℕ) : Type 0 where
 pub record Judgeable (p : Program) (depths : List ℕ) : Type 0 where
   pub table : soundTable p ≡ true
   pub long : length depths ≡ p .count
-  pub allows : firstFailing (allowed p) (p .count) 0 ≡ p .count
+  pub allows : firstFailing (allowedAt p) (p .count) 0 ≡ p .count

@@ -9,7 +9,7 @@ ghost use lib.ListN.{length};
 ghost use Rattle.rules.specs.Lists.{all};
 ghost use Rattle.rules.specs.Instructions.{rowOf, actionOf};
 ghost use Rattle.rules.specs.Table.{program, codeOf};
-ghost use Rattle.rules.specs.DepthList.{followers, forbidden, allowed, listed, ruleOf, rule, firstFailing, check};
+ghost use Rattle.rules.specs.DepthList.{followers, forbidden, allowedAt, listed, ruleOf, rule, firstFailing, check};
 ghost use Rattle.depths.specs.Judged.{Known, Judgeable};
 
 // Whether the instruction is forbidden in a program with a depth list.
@@ -28,7 +28,7 @@ fn is_forbidden(code: usize) -> bool
 // The first place with a forbidden instruction: the program's length where there is none.
 fn first_forbidden(table: &[u64], count: usize) -> usize
     requires { ⌜ count ≤ length (now table) ⌝ }
-    ensures { λ r. ⌜ r ≡ firstFailing (allowed (program (now (table .entry)) count)) count 0 ⌝ }
+    ensures { λ r. ⌜ r ≡ firstFailing (allowedAt (program (now (table .entry)) count)) count 0 ⌝ }
 {
     let mut place = 0;
     while place < count {

@@ -10,7 +10,7 @@ use borrow.Author.Tests.{leb-true, le-leb, ltb-true, lt-ltb, eqb-true, eqb-false
 use Rattle.rules.specs.Lists.{all, every}
 use Rattle.rules.specs.Sizes.{maxCells, notReached}
 use Rattle.rules.specs.Table.{Program, soundTable}
-use Rattle.rules.specs.DepthList.{allowed, listed, ruleTests, rule, firstFailing, acceptIf, check}
+use Rattle.rules.specs.DepthList.{allowedAt, listed, ruleTests, rule, firstFailing, acceptIf, check}
 use Rattle.rules.specs.Numbers.{depthNumber, numberOfChecked, placeOfChecked}
 use Rattle.rules.specs.declared.DepthRefusal.{DepthRefusal}
 use Rattle.rules.specs.declared.DepthRefusal.the-variants.{UnsoundTable, OutsideCells, ListLength, ForbiddenInstruction, RuleFailed}
@@ -72,12 +72,12 @@ module _ (p : Program) (n : ℕ) (depths : List ℕ) (place : ℕ) where
       ∙ rw (le-enough _ (depthAt depths place) (o .enough), lt-ltb _ n (o .low), have-all p depths _ _ (o .follow)) refl)
 
 module _ (p : Program) (place : ℕ) where
-  allowed-at : allowed p place ≡ true → AllowedAt p place
-  unfolding allowed
+  allowed-at : allowedAt p place ≡ true → AllowedAt p place
+  unfolding allowedAt
   allowed-at h = not-true _ h
 
-  at-allowed : AllowedAt p place → allowed p place ≡ true
-  unfolding allowed
+  at-allowed : AllowedAt p place → allowedAt p place ≡ true
+  unfolding allowedAt
   at-allowed h = ap not h
 
 -- ---- "Accept exactly if"
@@ -103,7 +103,7 @@ accepted-acceptable p n depths q =
       some = leb-true _ _ (and-left (leb 1 n) (leb n maxCells) (b .0));
       few = leb-true _ _ (and-right (leb 1 n) (leb n maxCells) (b .0));
       long = eqb-true _ _ (c .0);
-      allows = λ k h. allowed-at p k (none-fails (allowed p) (p .count) (eqb-true _ _ (d .0)) k h);
+      allows = λ k h. allowed-at p k (none-fails (allowedAt p) (p .count) (eqb-true _ _ (d .0)) k h);
       start = listed-has p depths 0 0 (e .0);
       rules = λ k h. rule-own p n depths k (none-fails (rule p n depths) (p .count) (eqb-true _ _ (f .0)) k h);
     }
@@ -111,7 +111,7 @@ accepted-acceptable p n depths q =
 pub acceptable-accepted : (p : Program) (n : ℕ) (depths : List ℕ) → Acceptable p n depths → check p n depths ≡ Accepted
 unfolding check
 acceptable-accepted p n depths a =
-    let allows : firstFailing (allowed p) (p .count) 0 ≡ p .count = all-pass (allowed p) (p .count) (λ k h. at-allowed p k (a .allows k h)) in
+    let allows : firstFailing (allowedAt p) (p .count) 0 ≡ p .count = all-pass (allowedAt p) (p .count) (λ k h. at-allowed p k (a .allows k h)) in
     let rules : firstFailing (rule p n depths) (p .count) 0 ≡ p .count =
     all-pass (rule p n depths) (p .count) (λ k h. own-rule p n depths k (a .rules k h)) in
     rw (
@@ -119,7 +119,7 @@ acceptable-accepted p n depths a =
       le-leb 1 n (a .some),
       le-leb n maxCells (a .few),
       eq-eqb (length depths) (p .count) (a .long),
-      eq-eqb (firstFailing (allowed p) (p .count) 0) (p .count) allows,
+      eq-eqb (firstFailing (allowedAt p) (p .count) 0) (p .count) allows,
       has-listed p depths 0 0 (a .start),
       eq-eqb (firstFailing (rule p n depths) (p .count) 0) (p .count) rules,
     ) refl
@@ -171,7 +171,7 @@ first-of p Holds test k to from h q =
 
 module _ (p : Program) (n : ℕ) (depths : List ℕ) (place : ℕ) where
   abbrev forbiddenAt : ℕ
-  forbiddenAt = firstFailing (allowed p) (p .count) 0
+  forbiddenAt = firstFailing (allowedAt p) (p .count) 0
 
   abbrev failingAt : ℕ
   failingAt = firstFailing (rule p n depths) (p .count) 0
@@ -183,7 +183,7 @@ module _ (p : Program) (n : ℕ) (depths : List ℕ) (place : ℕ) where
       let from =
       by-forbidden (soundTable p) (leb 1 n && leb n maxCells) (eqb (length depths) (p .count)) (eqb forbiddenAt (p .count)) (listed (p .count) depths 0 0)
       (eqb failingAt (p .count)) forbiddenAt failingAt place q in
-      first-of p (AllowedAt p) (allowed p) place (allowed-at p) (at-allowed p) (from .0) (from .1)
+      first-of p (AllowedAt p) (allowedAt p) place (allowed-at p) (at-allowed p) (from .0) (from .1)
 
   -- where 66 comes from, by whether place 0 has depth 0
   abbrev From : Bool → Type 0

@@ -11,7 +11,7 @@ use Rattle.rules.specs.Lists.{every}
 use Rattle.rules.specs.Sizes.{maxProgram, notReached}
 use Rattle.rules.specs.Table.{Program, program, placeOf}
 use Rattle.rules.specs.Numbers.{numberOfChecked, placeOfChecked}
-use Rattle.rules.specs.DepthList.{depthAfter, followers, forbidden, allowed, listed, rule, firstFailing, check}
+use Rattle.rules.specs.DepthList.{depthAfter, followers, forbidden, allowedAt, listed, rule, firstFailing, check}
 use Rattle.rules.specs.Examples.{programOf, holds}
 
 -- a program with N and a list is told with that number and place
@@ -25,19 +25,19 @@ abbrev fine : (n : ℕ) → String → List ℕ → Bool
 fine n source depths = told n source depths 0 0
 
 -- of `STOP X STOP`, with 16 cells: the rule of X holds, with that depth and that of the place behind it
-abbrev keeps : Program → (depth behind : ℕ) → Bool
-keeps p depth behind = rule p 16 (0 ∷ depth ∷ behind ∷ []) 1
+abbrev holdsWith : Program → (depth behind : ℕ) → Bool
+holdsWith p depth behind = rule p 16 (0 ∷ depth ∷ behind ∷ []) 1
 
 -- one too few is not enough, with what it would leave behind it; none are always there
 abbrev tooFew : Program → (needs leaves : ℕ) → Bool
 tooFew p zero leaves = true
-tooFew p (suc k) leaves = not (keeps p k (leaves - 1))
+tooFew p (suc k) leaves = not (holdsWith p k (leaves - 1))
 
 -- X needs so many values and leaves so many in their place, whatever lies below them; and the place behind it has just that depth
 abbrev moves : String → (needs leaves : ℕ) → Bool
 moves source k l =
     let p = programOf source in
-    every (keeps p k l ∷ keeps p (k + 3) (l + 3) ∷ not (keeps p k (l + 1)) ∷ tooFew p k l ∷ [])
+    every (holdsWith p k l ∷ holdsWith p (k + 3) (l + 3) ∷ not (holdsWith p k (l + 1)) ∷ tooFew p k l ∷ [])
 
 unfoldable pub deliveries : List Bool
 deliveries =
@@ -173,5 +173,5 @@ deliveries =
     ∷ []
 
 pub all-judged : every deliveries ≡ true
-unfolding deliveries holds depthAfter followers forbidden allowed listed rule firstFailing check
+unfolding deliveries holds depthAfter followers forbidden allowedAt listed rule firstFailing check
 all-judged = refl

@@ -47,8 +47,8 @@ isNamed w (name ∷ names) = same (text (w .name)) (text name) || isNamed w name
 unfoldable pub forbidden : Row → Bool
 forbidden w = isNamed w ("JSR" ∷ "JSRIND" ∷ "JUMPIND" ∷ "POPSP" ∷ [])
 
-unfoldable pub allowed : Program → (place : ℕ) → Bool
-allowed p place = not (forbidden (rowOf (codeOf (getD (p .places) place 0))))
+unfoldable pub allowedAt : Program → (place : ℕ) → Bool
+allowedAt p place = not (forbidden (rowOf (codeOf (getD (p .places) place 0))))
 
 -- ---- the rule of a place
 
@@ -93,6 +93,6 @@ check p n depths =
     acceptIf (soundTable p) UnsoundTable 0
     (acceptIf (leb 1 n && leb n maxCells) OutsideCells 0
     (acceptIf (eqb (length depths) (p .count)) ListLength 0
-    (acceptEach p (allowed p) ForbiddenInstruction
+    (acceptEach p (allowedAt p) ForbiddenInstruction
     (acceptIf (listed (p .count) depths 0 0) RuleFailed 0
     (acceptEach p (rule p n depths) RuleFailed Accepted)))))

@@ -5,7 +5,7 @@ use borrow.Author.Needs.{needs}
 use borrow.Author.Tests.{not-true, not-false}
 use denote.Ref.{now}
 use Rattle.rules.specs.Table.{program, soundTable}
-use Rattle.rules.specs.DepthList.{allowed, firstFailing}
+use Rattle.rules.specs.DepthList.{allowedAt, firstFailing}
 use Rattle.rules.proofs.Failing.{failing-most}
 use Rattle.depths.proofs.Rules.{table-longer}
 use Rattle.depths.proofs.Answers.{Sized, told-table, told-none, told-many, told-length, told-forbidden, told-start, judgeable, told-rule, told-accepted}
@@ -25,7 +25,7 @@ sized c =
 -- behind 65
 allows : (c : tie.Else5)
     → (let a = c .before .before .before .before .before .before .before .before .before .args in
-    firstFailing (allowed (program (now (a .table)) (a .count))) (a .count) 0 ≡ a .count)
+    firstFailing (allowedAt (program (now (a .table)) (a .count))) (a .count) 0 ≡ a .count)
 allows c = failing-most _ _ _ (c .before .first-forbidden .ensures) (c .if5 .left)
 
 is-sound-requires : tie.Need-is-sound-requires

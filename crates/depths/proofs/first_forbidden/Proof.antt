@@ -7,14 +7,14 @@ use borrow.Author.Needs.{needs}
 use denote.Ref.{now}
 use Rattle.rules.specs.Instructions.{rowOf}
 use Rattle.rules.specs.Table.{program}
-use Rattle.rules.specs.DepthList.{forbidden, allowed, firstFailing}
+use Rattle.rules.specs.DepthList.{forbidden, allowedAt, firstFailing}
 use Rattle.rules.proofs.Failing.{failing-end, failing-here, failing-next}
 use Rattle.depths.proofs.first_forbidden.Statement.{statement}
 use Rattle.depths.proofs.first_forbidden.Tie as tie
 
 abbrev Inv-loop : tie.InvT-loop
 Inv-loop table count place₀ place =
-    (place ≤ count) × (firstFailing (allowed (program table count)) count 0 ≡ firstFailing (allowed (program table count)) (count - place) place)
+    (place ≤ count) × (firstFailing (allowedAt (program table count)) count 0 ≡ firstFailing (allowedAt (program table count)) (count - place) place)
 
 abbrev μ-loop : tie.MeasureT-loop
 μ-loop table count place₀ place = count - place
@@ -23,7 +23,7 @@ loop-holds : tie.Need-loop-holds Inv-loop μ-loop
 loop-holds c =
     let a = c .before .args in
     let same : a .count ≡ a .count - 0 = omega arith in
-    (omega arith, ap (λ (k : ℕ). firstFailing (allowed (program (now (a .table)) (a .count))) k 0) same)
+    (omega arith, ap (λ (k : ℕ). firstFailing (allowedAt (program (now (a .table)) (a .count))) k 0) same)
 
 mul-code-of : tie.Need-mul-code-of Inv-loop μ-loop
 mul-code-of c = omega arith
@@ -38,14 +38,14 @@ is-forbidden-requires : tie.Need-is-forbidden-requires Inv-loop μ-loop
 is-forbidden-requires c κs = search needs
 
 returns : tie.Need-returns Inv-loop μ-loop
-unfolding allowed
+unfolding allowedAt
 returns c =
     let a = c .before .before .before .before .before .before .before .args in
     let v = c .before .before .before .before .before .loop in
     let h : v .place < a .count = omega arith in
-    let stops : allowed (program (now (a .table)) (a .count)) (v .place) ≡ false =
+    let stops : allowedAt (program (now (a .table)) (a .count)) (v .place) ≡ false =
     ap not (sym (c .before .is-forbidden .ensures ∙ ap (λ (k : ℕ). forbidden (rowOf k)) (c .before .before .code-of .ensures)) ∙ c .if1 .taken) in
-    sym (v .inv .1 ∙ failing-here (allowed (program (now (a .table)) (a .count))) (a .count) (v .place) h stops)
+    sym (v .inv .1 ∙ failing-here (allowedAt (program (now (a .table)) (a .count))) (a .count) (v .place) h stops)
 
 add-place : tie.Need-add-place Inv-loop μ-loop
 add-place c = omega arith
@@ -54,21 +54,21 @@ loop-less : tie.Need-loop-less Inv-loop μ-loop
 loop-less c = omega arith
 
 loop-again : tie.Need-loop-again Inv-loop μ-loop
-unfolding allowed
+unfolding allowedAt
 loop-again c =
     let a = c .before .before .before .before .before .before .before .args in
     let v = c .before .before .before .before .before .loop in
     let h : v .place < a .count = omega arith in
-    let passes : allowed (program (now (a .table)) (a .count)) (v .place) ≡ true =
+    let passes : allowedAt (program (now (a .table)) (a .count)) (v .place) ≡ true =
     ap not (sym (c .before .is-forbidden .ensures ∙ ap (λ (k : ℕ). forbidden (rowOf k)) (c .before .before .code-of .ensures)) ∙ c .if1 .left) in
-    (omega arith, v .inv .1 ∙ failing-next (allowed (program (now (a .table)) (a .count))) (a .count) (v .place) h passes)
+    (omega arith, v .inv .1 ∙ failing-next (allowedAt (program (now (a .table)) (a .count))) (a .count) (v .place) h passes)
 
 returns-2 : tie.Need-returns-2 Inv-loop μ-loop
 returns-2 c =
     let a = c .before .before .before .args in
     let v = c .before .loop in
     let here : v .place ≡ a .count = omega arith in
-    sym (v .inv .1 ∙ failing-end (allowed (program (now (a .table)) (a .count))) (a .count) (v .place) (omega arith) ∙ here)
+    sym (v .inv .1 ∙ failing-end (allowedAt (program (now (a .table)) (a .count))) (a .count) (v .place) (omega arith) ∙ here)
 
 pub first-forbidden-spec : {M : Type 1} → statement M
 first-forbidden-spec =
