@@ -10,13 +10,20 @@ use lib.Dec.{eqb}
 use Rattle.rules.specs.Lists.{every}
 use Rattle.rules.specs.Sizes.{maxProgram, notReached}
 use Rattle.rules.specs.Table.{Program, program, placeOf}
-use Rattle.rules.specs.Numbers.{numberOfChecked, placeOfChecked}
+use Rattle.rules.specs.Numbers.{depthNumber}
 use Rattle.rules.specs.DepthList.{depthAfter, followers, forbidden, allowedAt, listed, rule, firstFailing, check}
 use Rattle.rules.specs.Examples.{programOf, holds}
+use Rattle.rules.specs.declared.Checked.{Checked}
+use Rattle.rules.specs.declared.Checked.the-variants.{Accepted, NotAccepted}
 
--- a program with N and a list is told with that number and place
+-- the answer is told with that number and place
+abbrev isTold : Checked → (number place : ℕ) → Bool
+isTold Accepted number place = eqb number 0 && eqb place 0
+isTold (NotAccepted e at) number place = eqb number (depthNumber e) && eqb place at
+
+-- a program with N and a list
 abbrev gives : Program → (n : ℕ) → List ℕ → (number place : ℕ) → Bool
-gives p n depths number place = eqb (numberOfChecked (check p n depths)) number && eqb (placeOfChecked (check p n depths)) place
+gives p n depths number place = isTold (check p n depths) number place
 
 abbrev told : (n : ℕ) → String → List ℕ → (number place : ℕ) → Bool
 told n source depths number place = gives (programOf source) n depths number place
