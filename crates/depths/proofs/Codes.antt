@@ -15,7 +15,7 @@ use Rattle.rules.specs.Effects.{memoryAddress}
 use Rattle.rules.specs.Actions.{taken, addSp}
 use Rattle.rules.specs.Decide.{Action}
 use Rattle.rules.specs.Instructions.{Row, codes, rows, rowOf, actionOf}
-use Rattle.rules.specs.DepthList.{depthAfter, followers, forbidden}
+use Rattle.rules.specs.DepthList.{depthAfter, followers, isNamed, forbidden}
 use Rattle.rules.proofs.Tests.{by-test, never, below}
 use Rattle.rules.proofs.Rows.{EachRow, end, _then_, at-code}
 use Rattle.program.proofs.OneOf.{oneOf, NoneOf, elsewhere}
@@ -110,7 +110,7 @@ unfolding followers actionOf rowOf rows
 jumpc-followers n place = refl
 
 leads : Row → Bool
-leads w = same (text (w .name)) (text "STOP") || (same (text (w .name)) (text "JUMP") || same (text (w .name)) (text "JUMPC"))
+leads w = isNamed w ("STOP" ∷ "JUMP" ∷ "JUMPC" ∷ [])
 
 abbrev NextRow : Row → Type 0
 NextRow w = leads w ≡ false → forbidden w ≡ false → (n place : ℕ) → followers (w .action) n place ≡ (place + 1) ∷ (place + 1) ∷ []

@@ -1,7 +1,7 @@
 -- The first place that fails a test: a loop's turn and its ends; and what it says of the places before it. Assumes nothing.
 use Prim.Native.Nat.{ℕ, zero, suc, _+_, _-_, _≤_, _<_, zero-le}
 use mathlib.Core.Path.{_≡_, sym, ap, _∙_}
-use mathlib.Core.Bool.{Bool, true, false, cond, true≢false}
+use mathlib.Core.Bool.{Bool, true, false, cond}
 use mathlib.Core.Logic.{⊎-elim}
 use native.Mathlib.Nat.{zero-add, eq-or-lt-of-le}
 use native.Mathlib.Numerals.{add-one}
@@ -9,7 +9,7 @@ use native.Mathlib.Omega.{arith}
 use lib.Dec.{eqb}
 use borrow.Author.Tests.{eqb-true, eqb-false}
 use Rattle.rules.specs.DepthList.{firstFailing}
-use Rattle.rules.proofs.Tests.{by-test}
+use Rattle.rules.proofs.Tests.{by-test, never}
 
 -- ---- a loop
 
@@ -71,7 +71,7 @@ pub all-pass : (test : ℕ → Bool) (count : ℕ) → ((k : ℕ) → k < count 
 all-pass test count h =
     let first : IsFirst test 0 (0 + count) (firstFailing test count 0) = is-first test count 0 in
     ⊎-elim (λ q. q ∙ zero-add count)
-    (λ l. absurd (true≢false (sym (h (firstFailing test count 0) (omega (arith, l))) ∙ first .fails l))) (eq-or-lt-of-le (first .within))
+    (λ l. never (sym (h (firstFailing test count 0) (omega (arith, l))) ∙ first .fails l)) (eq-or-lt-of-le (first .within))
 
 -- it is never further than that
 pub failing-most : (test : ℕ → Bool) (count k : ℕ) → k ≡ firstFailing test count 0 → count ≤ k → firstFailing test count 0 ≡ count

@@ -39,11 +39,12 @@ unfoldable pub followers : Action → (operand place : ℕ) → List ℕ
 followers a v place =
     cond (eqb (effectAt a v place 0 0 .halt) 1) [] (effectAt a v place 0 0 .pc ∷ effectAt a v place 0 1 .pc ∷ [])
 
--- "It applies to programs without JSR, JSRIND, JUMPIND and POPSP."
-abbrev isNamed : Row → List String → Bool
+-- it has one of these names
+abbrev pub isNamed : Row → List String → Bool
 isNamed w [] = false
 isNamed w (name ∷ names) = same (text (w .name)) (text name) || isNamed w names
 
+-- "It applies to programs without JSR, JSRIND, JUMPIND and POPSP."
 unfoldable pub forbidden : Row → Bool
 forbidden w = isNamed w ("JSR" ∷ "JSRIND" ∷ "JUMPIND" ∷ "POPSP" ∷ [])
 
