@@ -1,7 +1,7 @@
 /* The SaM machine for C: every call of the proved library, with numbers and lent memory only.
  *
  * Link target/staticlib/libsam_c.a. Every call gives a number of document 01, with what requests a (24, 33), d (6),
- * e (5, 25, 33), f (60 to 63), g (10), h (10, 11, 12, 43), i (10, 14) and j (11, 64 to 66) add:
+ * e (5, 25, 33), f (60 to 63), g (10), h (10, 11, 12, 43), i (10, 14), j (11, 64 to 66) and k (10, 41, 45, 67) add:
  *
  *    0  done, or a run found HALT 1
  *    1  step with HALT 1
@@ -15,7 +15,7 @@
  *    9  step-back with U = 0
  *   10  broken state or table; a kept number above U, or 0 with U above 0, is a broken state, and so is an output above
  *       256 bytes or a written count above its length; at a forget also a used record that is not well formed, or a
- *       kept number other than that of the records in use
+ *       kept number other than that of the records in use; at a load also what the image holds
  *   11  at reset N, H or the output outside the sizes below, or cells and tags of unequal count; at a run a limit above
  *       1,000,000; at a depth list N outside the sizes below
  *   12  WRITECH with a full output; it comes after 7 and before 8
@@ -35,6 +35,7 @@
  *   64  depth list not of the program's length
  *   65  a forbidden instruction, with its first place
  *   66  a failed depth rule, with its first place
+ *   67  at a load N not that of the lent cells and tags, or a lent history or output outside the sizes below
  *
  * A count of elements stands after each pointer. A pointer is never null and is aligned for its type, also where the
  * count is 0; memory lent to be written overlaps no other memory of the call.
@@ -44,9 +45,9 @@
  * line and the column that assemble tells, the steps that a run made before a step was refused and the place that a
  * depth list is refused at.
  *
- * Assemble, list, pack and unpack write an output: a table, a text, an image. Refused, for a `told` of another length
- * too, they leave an output of wrong length untouched and zero one of right length. A refused step, step-back, forget,
- * reset or run-entry changes no cell, tag, history place or byte of the machine's output.
+ * Assemble, list, pack, unpack and save write an output: a table, a text, an image. Refused, for a `told` of another
+ * length too, they leave an output of wrong length untouched and zero one of right length. A refused step, step-back,
+ * forget, reset, load or run-entry changes no cell, tag, history place or byte of the machine's output.
  */
 #ifndef SAM_H
 #define SAM_H
@@ -63,6 +64,7 @@ enum {
     SAM_TABLE_PLACES = 1024,   /* places of a table: its exact length */
     SAM_TEXT_BYTES = 20480,    /* bytes of a listing: its exact length */
     SAM_IMAGE_BYTES = 4866,    /* bytes of a packed image: its exact length */
+    SAM_STATE_BYTES = 4638,    /* bytes of a saved state: its exact length */
     SAM_CELL_LIMIT = 1000,     /* N is 1 to this */
     SAM_HISTORY_LIMIT = 8192,  /* H is 0 to this; H = 0 keeps no history */
     SAM_OUTPUT_LIMIT = 256,    /* bytes of a machine's output are 0 to this; one of 0 bytes is full */
@@ -90,9 +92,9 @@ enum {
 };
 
 /* The registers are a lent slice of nine. Registers of another length are a 10 in 10's place, so after 11 at a reset
- * and a run, and stay as they are. SAM_KEPT is how many steps can be taken back: after a reset the steps accepted less
- * the step-backs accepted and the steps forgotten, and 0 where H is 0. SAM_WRITTEN is how many bytes of the output are
- * written. */
+ * and a run, after 31 at a save and after 67 at a load, and stay as they are. SAM_KEPT is how many steps can be taken
+ * back: after a reset or a load the steps accepted less the step-backs accepted and the steps forgotten, and 0 where H
+ * is 0. SAM_WRITTEN is how many bytes of the output are written. */
 enum { SAM_N, SAM_H_PLACES, SAM_PC, SAM_SP, SAM_FBR, SAM_HALT, SAM_U, SAM_KEPT, SAM_WRITTEN, SAM_REGISTERS };
 
 /* The tag of a cell. A CH is a character code, 0 to 127. */
@@ -172,6 +174,27 @@ uint32_t sam_dwell(const uint64_t *table, size_t places, uint64_t length, const 
  * 66, else 0. */
 uint32_t sam_depths(const uint64_t *table, size_t places, uint64_t length, uint64_t n, const uint16_t *depths,
                     size_t depths_len, uint64_t *told, size_t told_len);
+
+/* Saves a machine's state, to be loaded into another: N in 10 bits, PC 11, SP 10, FBR 10, HALT 1 and the written count
+ * 9, then each of the N cells as its tag in 3 bits and its bits in 32, then the bytes of the output that are written,
+ * then zeros to a byte; each field has its most significant bit first. The image is lent as 4,638 bytes, the rest is
+ * zero, and nothing but image and told is written. History, U, the kept number and H are not saved, nor is the program.
+ * told[1]: the image's length, and only that much is loaded again. 31, then 10 as for a step. */
+uint32_t sam_save(const uint64_t *table, size_t places, uint64_t length, const uint64_t *registers,
+                  size_t registers_len, const uint32_t *bits, size_t n, const uint8_t *tags, size_t tags_len,
+                  const uint64_t *history, size_t h, const uint8_t *output, size_t output_len, uint8_t *image,
+                  size_t image_len, uint64_t *told, size_t told_len);
+
+/* Loads a saved state: cells, tags, written output, PC, SP, FBR and HALT are as saved, N is that of the lent cells and
+ * of the image, H is the lent history's, U and the kept number are 0, and the history and the output's rest are zeroed.
+ * What the lent memory and registers held before is not judged. The table may be any sound one, since the image cannot
+ * tell under which program it was saved; only with the same one does the saved session go on. Refused in this order: 41
+ * where the image ends before all that its own N and written count announce; 67; 10 for a table or a state that a step
+ * would answer with 10; 45. A refused load leaves cells, history and output as they were and sets the registers, where
+ * they are nine, to zero. */
+uint32_t sam_load(const uint8_t *image, size_t image_len, const uint64_t *table, size_t places, uint64_t length,
+                  uint64_t *registers, size_t registers_len, uint32_t *bits, size_t n, uint8_t *tags, size_t tags_len,
+                  uint64_t *history, size_t h, uint8_t *output, size_t output_len);
 
 #ifdef __cplusplus
 }

@@ -1,2 +1,2 @@
 -- Laws for the proofs of this crate's functions.
-pub mod Pieces
+pub mod Instructions

@@ -1,2 +1,2 @@
 -- What the inner contracts of `image` cite.
-pub mod Reach
+pub mod Longest

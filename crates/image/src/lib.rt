@@ -3,7 +3,6 @@ use rules::ImageRefusal;
 use rules::Packed;
 use rules::sizes;
 
-mod fields;
 mod operands;
 mod reading;
 mod writing;

@@ -28,6 +28,20 @@ pub(crate) fn width_of(kind: Kind) -> usize
     }
 }
 
+// How many values an operand of the kind has in an image.
+pub(crate) fn span_of(kind: Kind) -> u64
+    ensures { λ r. ⌜ r ≡ 2 ^ widthOf kind ⌝ }
+{
+    match kind {
+        Kind::Bare => 1,
+        Kind::Immediate => 0x1_0000_0000,
+        Kind::Pattern => 0x1_0000_0000,
+        Kind::Offset => 0x800,
+        Kind::Target => 0x800,
+        Kind::Character => 0x80,
+    }
+}
+
 // The 32 bits in a table of an operand that an image has as the number v: an offset's sign goes on to the left.
 pub(crate) fn table_bits(kind: Kind, v: u32) -> u32
     requires { ⌜ v < 2 ^ widthOf kind ⌝ }

@@ -10,14 +10,18 @@ use rules::ForgetRefusal;
 use rules::Forgot;
 use rules::ImageRefusal;
 use rules::Listed;
+use rules::LoadRefusal;
 use rules::MachineRefusal;
 use rules::NO_POSITION;
 use rules::Packed;
 use rules::Position;
+use rules::Resumed;
+use rules::SaveRefusal;
+use rules::Saved;
 use rules::Step;
 use rules::TextRefusal;
 ghost use mathlib.Core.Path.{_≡_};
-ghost use Rattle.rules.specs.Numbers.{machineNumber, textNumber, imageNumber, numberOfReset, numberOfStep, numberOfEnding, numberOfAssembled, lengthOfAssembled, positionOfAssembled, numberOfListed, lengthOfListed, numberOfPacked, lengthOfPacked, unreadNumber, numberOfDwell, tenthsOfDwell, forgetNumber, numberOfForgot, depthNumber, numberOfChecked, placeOfChecked};
+ghost use Rattle.rules.specs.Numbers.{machineNumber, textNumber, imageNumber, numberOfReset, numberOfStep, numberOfEnding, numberOfAssembled, lengthOfAssembled, positionOfAssembled, numberOfListed, lengthOfListed, numberOfPacked, lengthOfPacked, unreadNumber, numberOfDwell, tenthsOfDwell, forgetNumber, numberOfForgot, depthNumber, numberOfChecked, placeOfChecked, saveNumber, numberOfSaved, lengthOfSaved, loadNumber, numberOfLoad};
 
 // The number of a refusal of the machine: 1 to 12.
 pub fn machine_number(e: MachineRefusal) -> u32
@@ -108,6 +112,28 @@ pub fn depth_number(e: DepthRefusal) -> u32
         DepthRefusal::ListLength => 64,
         DepthRefusal::ForbiddenInstruction => 65,
         DepthRefusal::RuleFailed => 66,
+    }
+}
+
+// The number of a refusal of a save: 10 and 31.
+pub fn save_number(e: SaveRefusal) -> u32
+    ensures { λ r. ⌜ r ≡ saveNumber e ⌝ }
+{
+    match e {
+        SaveRefusal::UnsoundState => 10,
+        SaveRefusal::ImageLength => 31,
+    }
+}
+
+// The number of a refusal of a load: 10, 41, 45 and 67.
+pub fn load_number(e: LoadRefusal) -> u32
+    ensures { λ r. ⌜ r ≡ loadNumber e ⌝ }
+{
+    match e {
+        LoadRefusal::OutsideRanges => 10,
+        LoadRefusal::StateEndsEarly => 41,
+        LoadRefusal::StatePadding => 45,
+        LoadRefusal::OtherSizes => 67,
     }
 }
 
@@ -253,5 +279,34 @@ pub fn checked_place(checked: Checked) -> usize
     match checked {
         Checked::Accepted => 0,
         Checked::NotAccepted(_, place) => place,
+    }
+}
+
+// The number and the length of a save's answer.
+pub fn saved_number(saved: Saved) -> u32
+    ensures { λ r. ⌜ r ≡ numberOfSaved saved ⌝ }
+{
+    match saved {
+        Saved::Bytes(_) => 0,
+        Saved::NotSaved(e) => save_number(e),
+    }
+}
+
+pub fn saved_length(saved: Saved) -> usize
+    ensures { λ r. ⌜ r ≡ lengthOfSaved saved ⌝ }
+{
+    match saved {
+        Saved::Bytes(length) => length,
+        Saved::NotSaved(_) => 0,
+    }
+}
+
+// The number of a load.
+pub fn resumed_number(resumed: Resumed) -> u32
+    ensures { λ r. ⌜ r ≡ numberOfLoad resumed ⌝ }
+{
+    match resumed {
+        Resumed::Going => 0,
+        Resumed::NotGoing(e) => load_number(e),
     }
 }

@@ -31,8 +31,8 @@ use Rattle.rules.specs.declared.Begun.the-variants.{Ready}
 use Rattle.rules.specs.declared.Checked.the-variants.{Accepted}
 use Rattle.rules.proofs.Runs.{run-long}
 use Rattle.rules.proofs.Spares.{Spares, spares-fitting}
-use Rattle.promises.specs.Unbounded.{Unbounded, unmoved, decided}
-use Rattle.promises.specs.Series.{Request, step, run, State, Session, stateOf, series, begin, left, reset as byReset, ahead, freshRun, Promised}
+use Rattle.promises.specs.Unbounded.{Unbounded, decided}
+use Rattle.promises.specs.Series.{Request, step, run, State, Session, stateOf, series, begin, left, fresh, reset as byReset, ahead, freshRun, Promised}
 use Rattle.promises.specs.Delivered.{Acceptable, Reached, meets, AsListed}
 use Rattle.promises.proofs.Counts.{series-then}
 use Rattle.promises.proofs.Runs.{Because, IsItsSteps, run-is-its-steps}
@@ -57,7 +57,7 @@ module _ (p : Program) (m : Memory) (depths : List ℕ) (accepts : check p (leng
   o = left (reset p m)
 
   abbrev x : Unbounded
-  x = unmoved (reset p m .answer .registers) (reset p m .memory)
+  x = fresh o
 
   promised : (qs : List Request) → Promised p o x (series p qs (begin o))
   promised = demand3 p o x (byReset m m ready ready (record { bits = refl; tags = refl; output = refl }) refl refl)

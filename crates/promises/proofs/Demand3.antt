@@ -28,8 +28,8 @@ use Rattle.promises.specs.Series.{Request, State, plain, Session, stateO
 use Rattle.promises.specs.Agrees.{Alike}
 use Rattle.promises.proofs.Agrees.{agrees}
 use Rattle.promises.proofs.Demand3Good.{Good}
-use Rattle.promises.proofs.Demand3Held.{held, cuts, forget-held, forget-many}
-use Rattle.promises.proofs.Demand3Reset.{Begins, origin-begins}
+use Rattle.promises.proofs.Demand3Held.{held, cuts, forget-held, forget-many, Begins}
+use Rattle.promises.proofs.Demand3Origin.{origin-begins}
 use Rattle.promises.proofs.Demand3Kept.{reached, no-more-kept, Kept, run-reached, records-reached, formed-held, good-reached, good-kept, BackOn, nothing, one, back-on, length-held, kept-series}
 
 no-elements : (l : List ℕ) → length l ≡ 0 → l ≡ []

@@ -45,6 +45,13 @@ held h ls x =
       memory = record { cells = x .cells; history = placesOf ls ++ replicate (h - length (placesOf ls)) 0; output = x .output };
     }
 
+-- an origin, however it came about: o holds no record of x, which has made none and is good
+pub record Begins (p : Program) (o : State) (x : Unbounded) : Type 0 where
+  pub short : o .registers .h ≤ maxHistory
+  pub holds : o ≡ held (o .registers .h) [] x
+  pub none : x .records ≡ []
+  pub good : Good p (plain x)
+
 -- the records held after a step: one more where there is a history
 abbrev pub added : Bool → List ℕ → List (List ℕ) → List (List ℕ)
 added true l ls = l ∷ ls

@@ -32,8 +32,7 @@ use Rattle.promises.specs.Series.{Request, step, run, back, forget, Stat
 use Rattle.promises.proofs.Runs.{run-within}
 use Rattle.promises.proofs.Demand3Good.{Good, committed, step-good}
 use Rattle.promises.proofs.Demand3Run.{Makes, Run, run-made, records-made}
-use Rattle.promises.proofs.Demand3Held.{held, added, good-held, fits-added, commit-held, back-held, back-nothing, forget-held, forget-many}
-use Rattle.promises.proofs.Demand3Reset.{Begins}
+use Rattle.promises.proofs.Demand3Held.{held, added, good-held, fits-added, commit-held, back-held, back-nothing, forget-held, forget-many, Begins}
 
 -- ---- how many records are held: with a history all that were made, less those forgotten; without one none
 

@@ -1,7 +1,7 @@
 -- A reset that is accepted leaves a machine that holds no record, and without its history is in a good state: sound, its cells of 32 bits, its output zero. So
 -- it is where a series begins. Assumes nothing.
 use Prim.Native.Nat.{ℕ, _≤_, zero-le}
-use mathlib.Core.Path.{_≡_, refl, sym, ap, _∙_, subst}
+use mathlib.Core.Path.{_≡_, refl, sym, ap, _∙_}
 use mathlib.Core.Bool.{Bool, true, false, cond}
 use mathlib.Core.List.{[]}
 use native.Mathlib.Nat.{sub-zero}
@@ -14,7 +14,7 @@ use Rattle.rules.specs.Sizes.{maxHistory, maxOutput}
 use Rattle.rules.specs.Table.{Program, soundTable}
 use Rattle.rules.specs.Tags.{int}
 use Rattle.rules.specs.State.{Memory}
-use Rattle.rules.specs.Reset.{Started, cleared, denied, sizeTests, zeroed, begun, reset}
+use Rattle.rules.specs.Reset.{cleared, denied, sizeTests, zeroed, begun, reset}
 use Rattle.rules.specs.declared.MachineRefusal.{MachineRefusal}
 use Rattle.rules.specs.declared.MachineRefusal.the-variants.{Broken, OutsideSizes}
 use Rattle.rules.specs.declared.Begun.the-variants.{Ready, NotReady}
@@ -23,10 +23,10 @@ use Rattle.rules.proofs.Fair.{FairCell}
 use Rattle.rules.proofs.FairEffects.{fair-plain}
 use Rattle.rules.proofs.Sound.{facts-sound}
 use Rattle.rules.proofs.Zeros.{zeros-at}
-use Rattle.promises.specs.Unbounded.{Unbounded, unmoved}
-use Rattle.promises.specs.Series.{State, plain, left, SameSizes, Origin, reset as byReset}
+use Rattle.promises.specs.Unbounded.{Unbounded}
+use Rattle.promises.specs.Series.{State, plain, left, SameSizes, fresh}
 use Rattle.promises.proofs.Demand3Good.{Good}
-use Rattle.promises.proofs.Demand3Held.{held}
+use Rattle.promises.proofs.Demand3Held.{held, Begins}
 
 -- ---- a reset that is accepted
 
@@ -69,11 +69,11 @@ reset-sized p m m′ ready same history =
     a .leaves ∙ begun-sized m m′ same history ∙ sym (b .leaves)
 
 -- the machine that it leaves, without its history, is in a good state
-good-begun : (p : Program) (m : Memory) → Accepted p m → Good p (plain (unmoved (begun m .answer .registers) (begun m .memory)))
+good-begun : (p : Program) (m : Memory) → Accepted p m → Good p (plain (fresh (left (begun m))))
 good-begun p m a =
     let at : (k : ℕ) → getD (sizeTests m) k true ≡ true = λ k. every-at (sizeTests m) k (a .sizes) in
     let some : 1 ≤ length (m .cells .bits) = leb-true _ _ (at 0) in
-    let x : Unbounded = unmoved (begun m .answer .registers) (begun m .memory) in
+    let x : Unbounded = fresh (left (begun m)) in
     let zero-cell : FairCell (p .count) (int 0) = fair-plain (p .count) 0 0 zero-le in
     record {
       sound =
@@ -104,7 +104,7 @@ good-begun p m a =
 
 -- beside one of the same sizes but for the history, it holds no record
 held-begun : (m m′ : Memory) → SameSizes m m′
-    → left (begun m) ≡ held (length (m .history)) [] (unmoved (begun m′ .answer .registers) (begun m′ .memory))
+    → left (begun m) ≡ held (length (m .history)) [] (fresh (left (begun m′)))
 held-begun m m′ same =
     ap {B = State} (λ (h : ℕ). record {
       registers = cleared (length (m .cells .bits)) (length (m .history));
@@ -112,23 +112,16 @@ held-begun m m′ same =
     }) (sym (sub-zero (length (m .history))))
     ∙ rw (same .bits, same .tags, same .output) refl
 
--- ---- an origin, however it came about: o holds no record of x, which has made none and is good
-
-pub record Begins (p : Program) (o : State) (x : Unbounded) : Type 0 where
-  pub short : o .registers .h ≤ maxHistory
-  pub holds : o ≡ held (o .registers .h) [] x
-  pub none : x .records ≡ []
-  pub good : Good p (plain x)
-
-pub origin-begins : (p : Program) (o : State) (x : Unbounded) → Origin p o x → Begins p o x
-origin-begins p o x (byReset m m′ ready ready′ same leaves begins) =
+-- so it is where a series begins
+pub reset-begins : (p : Program) (m m′ : Memory) → reset p m .answer .begun ≡ Ready → reset p m′ .answer .begun ≡ Ready → SameSizes m m′
+    → Begins p (left (reset p m)) (fresh (left (reset p m′)))
+reset-begins p m m′ ready ready′ same =
     let a : Accepted p m = reset-accepted p m ready in
     let b : Accepted p m′ = reset-accepted p m′ ready′ in
-    subst (λ (t : State). Begins p t x) (sym (leaves ∙ ap left (a .leaves)))
-    (subst (Begins p (left (begun m))) (sym (begins ∙ ap (λ (y : Started). unmoved (y .answer .registers) (y .memory)) (b .leaves)))
+    rw (a .leaves, b .leaves)
     (record {
       short = leb-true (length (m .history)) maxHistory (every-at (sizeTests m) 2 (a .sizes));
       holds = held-begun m m′ same;
       none = refl;
       good = good-begun p m′ b;
-    }))
+    })

@@ -13,7 +13,8 @@ use Rattle.promises.specs.Unbounded.{Unbounded, moved}
 use Rattle.promises.specs.Series.{Request, State, plain, Session, stateOf, series, begin, Origin, ahead, freshRun, Promised}
 use Rattle.promises.specs.Dwells.{Held, readOff, ReadAfresh, Even, ReadAlike, TakenBack, LeftAlone}
 use Rattle.promises.proofs.Counts.{series-from, series-then}
-use Rattle.promises.proofs.Demand3Reset.{Begins, origin-begins}
+use Rattle.promises.proofs.Demand3Held.{Begins}
+use Rattle.promises.proofs.Demand3Origin.{origin-begins}
 use Rattle.promises.proofs.Demand3Kept.{Kept, kept-series}
 use Rattle.promises.proofs.Demand3.{same-held, demand3}
 

@@ -5,24 +5,24 @@
 -- place.
 --
 -- Assumes nothing.
-use Prim.Native.Nat.{ℕ, suc, _+_, _-_, _*_, _%_, _^_, _≤_, _<_}
+use Prim.Native.Nat.{ℕ, suc, _+_, _-_, _%_, _^_, _≤_, _<_}
 use mathlib.Core.Path.{_≡_, refl, sym, ap, ap₂, _∙_, subst}
 use mathlib.Core.Bool.{Bool, true, false, cond, _||_}
 use mathlib.Core.List.{List, [], _∷_, _++_, append-assoc}
 use native.Mathlib.Nat.{mod-eq-of-lt, mod-lt}
 use native.Mathlib.Omega.{arith}
-use borrow.Author.Tests.{lt-ltb, le-ltb, eq-eqb, ltb-true, leb-true, eqb-true}
+use borrow.Author.Tests.{lt-ltb, le-ltb, ltb-true, leb-true, eqb-true}
 use lib.Dec.{leb, ltb}
-use lib.ListN.{length, take, drop, replicate, length-append, length-replicate}
+use lib.ListN.{length, take, drop, length-append}
 use lib.Pow.{pow-pos, split}
-use lib.Seq.{take-at, drop-at, length-take-le}
+use lib.Seq.{take-at, drop-at}
 use Rattle.rules.specs.Lists.{all}
 use Rattle.rules.specs.Sizes.{maxProgram, imageSize, maxOffset, maxCharacter}
 use Rattle.rules.specs.Numbers.{lengthOfPacked}
-use Rattle.rules.specs.Fields.{field, value, bitsOf}
+use Rattle.rules.specs.Fields.{field, value, bitsOf, packedTo, padded}
 use Rattle.rules.specs.Instructions.{codes, kindOf}
 use Rattle.rules.specs.Table.{Program, placeOf, codeOf, operandOf, within, soundPlace, soundTable}
-use Rattle.rules.specs.Image.{widthOf, instructionBits, programBits, imageBits, imageLength, packedTo, Filed, pack, extended, takeOperand, takeOne, places, unfit, prepend, padded, atEnd, unpackFrom, unpacked, filed, unpack}
+use Rattle.rules.specs.Image.{widthOf, instructionBits, programBits, imageBits, imageLength, Filed, pack, extended, takeOperand, takeOne, places, unfit, prepend, atEnd, unpackFrom, unpacked, filed, unpack}
 use Rattle.rules.specs.declared.Kind.{Kind}
 use Rattle.rules.specs.declared.Kind.the-variants.{Bare, Immediate, Pattern, Offset, Target, Character}
 use Rattle.rules.specs.declared.ImageRefusal.the-variants.{BadPadding}
@@ -31,9 +31,9 @@ use Rattle.rules.specs.declared.Taken.the-variants.{Place}
 use Rattle.rules.proofs.Fields.{field-length, value-field}
 use Rattle.rules.proofs.Tests.{and-left, and-right}
 use Rattle.rules.proofs.Table.{table-short, used-sound, used-count, used-whole}
-use Rattle.rules.proofs.Bits.{value-zeros, packed-length, packed-bits}
 use Rattle.rules.proofs.Packing.{instruction-length, bits-image, image-fits, pack-done}
-use Rattle.rules.proofs.Unpacking.{operand-taken, one-operand, from-one, unpacked-from, padded-short, unpack-filed}
+use Rattle.rules.proofs.Unpacking.{operand-taken, one-operand, from-one, unpacked-from, unpack-filed}
+use Rattle.promises.proofs.Padding.{paddingOf, padding-padded, told-length, told-bits}
 
 -- ---- the statement
 
@@ -114,26 +114,14 @@ module _ (p : Program) (s : soundTable p ≡ true) where
   abbrev image : List ℕ
   image = take (imageLength p) (packedTo imageSize (imageBits p))
 
-  padding : ℕ
-  padding = imageLength p * 8 - length (imageBits p)
-
-  padding-short : padding < 8
-  unfolding padding imageLength
-  padding-short = omega arith
-
-  pad : List ℕ
-  pad = replicate padding 0
-
-  pad-padded : padded pad ≡ true
-  unfolding pad
-  pad-padded =
-      padded-short (replicate padding 0) (omega (arith, padding-short, length-replicate {A = ℕ} padding 0)) ∙ eq-eqb _ _ (value-zeros padding)
+  abbrev pad : List ℕ
+  pad = paddingOf (imageBits p)
 
   image-bits : bitsOf image ≡ field 11 (p .count) ++ (programBits used ++ pad)
-  unfolding imageBits pad padding imageLength
+  unfolding imageBits imageLength
   image-bits =
-      packed-bits (imageLength p) imageSize (imageBits p) (bits-image p) (image-fits p s) (omega arith)
-      ∙ append-assoc (field 11 (p .count)) (programBits used) (replicate padding 0)
+      told-bits imageSize (imageBits p) (image-fits p s) (bits-image p)
+      ∙ append-assoc (field 11 (p .count)) (programBits used) (paddingOf (imageBits p))
 
   unpacked-back : unpacked image ≡ places used
   unpacked-back =
@@ -147,18 +135,19 @@ module _ (p : Program) (s : soundTable p ≡ true) where
       unpacked-from image n lb en h
       ∙ ap (unpackFrom n n) (ap (drop 11) image-bits ∙ drop-at (field 11 n) rest 11 (field-length 11 n))
       ∙ ap (λ (k : ℕ). unpackFrom n k rest) (sym (used-count p s))
-      ∙ program-back n used pad h (used-sound p s) pad-padded
+      ∙ program-back n used pad h (used-sound p s) (padding-padded (imageBits p))
 
   filed-back : (table : List ℕ) → filed table (unpacked image) ≡ record { answer = Length (p .count); output = p .places }
   filed-back table = rw (unpacked-back, used-count p s, used-whole p s)
 
 pub image-unpacks : (p : Program) (out table : List ℕ) → soundTable p ≡ true → length out ≡ imageSize → length table ≡ maxProgram → UnpackedAgain p out table
+unfolding imageLength
 image-unpacks p out table s ho ht =
     let e = pack-done p out ho s in
     let b : toldBytes (pack p out) ≡ image p s = ap toldBytes e in
     let f = image-fits p s in
     let l : length (toldBytes (pack p out)) ≡ imageLength p =
-    ap length b ∙ length-take-le (imageLength p) (packedTo imageSize (imageBits p)) (rw (packed-length imageSize (imageBits p)) f) in
+    ap length b ∙ told-length imageSize (imageBits p) f in
     record {
       accepted = ap (λ (x : Filed). x .answer) e ∙ ap Length (sym l);
       fits = subst (λ (n : ℕ). n ≤ imageSize) (sym l) f;

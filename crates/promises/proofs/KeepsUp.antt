@@ -24,8 +24,8 @@ use Rattle.promises.specs.Agrees.{HasRoom, KeepsUp}
 use Rattle.promises.proofs.Runs.{steps-end, none-undone, none-forgotten}
 use Rattle.promises.proofs.Demand3Good.{step-good}
 use Rattle.promises.proofs.Demand3Run.{Makes, all-made}
-use Rattle.promises.proofs.Demand3Held.{held, added, judged-held}
-use Rattle.promises.proofs.Demand3Reset.{Begins, origin-begins}
+use Rattle.promises.proofs.Demand3Held.{held, added, judged-held, Begins}
+use Rattle.promises.proofs.Demand3Origin.{origin-begins}
 use Rattle.promises.proofs.Demand3Kept.{reached, Kept, run-reached, good-kept, kept-series}
 use Rattle.promises.proofs.Demand3.{far-is, few-is, promised}
 

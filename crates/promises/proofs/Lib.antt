@@ -6,6 +6,8 @@ pub mod Demand3Good
 pub mod Demand3Run
 pub mod Demand3Held
 pub mod Demand3Reset
+pub mod Demand3Load
+pub mod Demand3Origin
 pub mod Demand3Kept
 pub mod Agrees
 pub mod Demand3
@@ -13,6 +15,7 @@ pub mod KeepsUp
 pub mod Whole
 pub mod ListingRound
 pub mod Listing
+pub mod Padding
 pub mod Image
 -- Request a: place, line and column of a refusal.
 pub mod Lines
@@ -32,5 +35,8 @@ pub mod Told
 pub mod Acceptable
 pub mod OnList
 pub mod Delivered
+-- Request k: a session that is carried to another machine.
+pub mod Carried
+pub mod GoesOn
 -- All of them, and those of other crates, each below its sentence.
 mod Theorems

@@ -10,7 +10,8 @@ use Rattle.rules.specs.Table.{Program}
 use Rattle.promises.specs.Unbounded.{Unbounded}
 use Rattle.promises.specs.Series.{Request, back, State, Session, ask, series, begin, Origin, TakesBack}
 use Rattle.promises.proofs.Demand3Run.{Makes}
-use Rattle.promises.proofs.Demand3Reset.{Begins, origin-begins}
+use Rattle.promises.proofs.Demand3Held.{Begins}
+use Rattle.promises.proofs.Demand3Origin.{origin-begins}
 use Rattle.promises.proofs.Demand3Kept.{reached, Kept, records-reached, few-made, BackOn, nothing, one, back-on, keep-back, kept-series}
 use Rattle.promises.proofs.Demand3.{kept-few}
 

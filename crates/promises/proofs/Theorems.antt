@@ -38,7 +38,7 @@ use Rattle.promises.proofs.Runs.{run-is-its-steps}
 use Rattle.promises.proofs.Listing.{listing-assembles}
 -- "and a packed image unpacks to its table again."
 use Rattle.promises.proofs.Image.{image-unpacks}
--- ---- Demand 3, as request i has it: "Cells, tags, registers other than H, U and the kept number, and output equal that run's .. the first U places are exactly the newest S minus B minus F records of that run"
+-- ---- Demand 3, as requests i and k have it: "Cells, tags, registers other than H, U and the kept number, and output equal that run's .. the first U places are exactly the newest S minus B minus F records of that run"
 
 use Rattle.promises.proofs.Demand3.{demand3}
 -- "Demand 3's fresh run is now made with room for all its records": it does what a step does wherever there is room, and a machine with that room keeps up with it
@@ -98,3 +98,14 @@ use Rattle.promises.proofs.Told.{step-told}
 -- "From a reset, no run of an accepted program meets 2, 3 or 7. Each place such a run reaches has SP as its listed depth."
 use Rattle.promises.proofs.Delivered.{as-listed}
 use Rattle.rules.specs.Deliveries.{all-judged}
+-- ---- Request k: "demand 3 from then on reads "the latest reset or load", a fresh load in place of a fresh reset": `demand3` has it, over an origin that is either
+
+use Rattle.promises.proofs.Demand3Origin.{origin-begins}
+-- and where nothing is forgotten, everything equals a fresh load of the same sizes and the steps that are left
+use Rattle.promises.proofs.Whole.{demand3-loaded}
+use Rattle.promises.proofs.Demand3Load.{load-sized}
+-- "Saving and loading again keeps cells, tags, written output and registers, except that U and the kept number become 0 and H is the lent history's."
+use Rattle.promises.proofs.Carried.{carried-over}
+-- "only with the same one does the saved session go on": step by step as the first does, until one of them has no room in its history
+use Rattle.promises.proofs.GoesOn.{goes-on, session-goes-on}
+use Rattle.rules.specs.Carryings.{all-carried}

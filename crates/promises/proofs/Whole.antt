@@ -1,4 +1,4 @@
--- Demand 3 where nothing is forgotten: everything equals a fresh reset of the same sizes and S minus B steps of the machine itself. It follows from what a session
+-- Demand 3 where nothing is forgotten: everything equals a fresh reset or load of the same sizes and S minus B steps of the machine itself. It follows from what a session
 -- keeps: all the records of the fresh run are held, so each of its steps had room. Assumes nothing.
 use Prim.Native.Nat.{ℕ, _+_, _-_, _≤_}
 use mathlib.Core.Path.{_≡_, refl, ap, _∙_, subst}
@@ -13,13 +13,18 @@ use Rattle.rules.specs.State.{Memory}
 use Rattle.rules.specs.Numbers.{machineNumber}
 use Rattle.rules.specs.Records.{placesOf}
 use Rattle.rules.specs.Reset as Reset
+use Rattle.rules.specs.SavedState as SavedState
 use Rattle.rules.specs.declared.MachineRefusal.the-variants.{NoHistory}
 use Rattle.rules.specs.declared.Begun.the-variants.{Ready}
-use Rattle.promises.specs.Unbounded.{Unbounded, unmoved}
-use Rattle.promises.specs.Series.{Request, step, run, back, forget, State, Session, stateOf, ask, series, begin, left, SameSizes, Origin, reset, afresh, ahead, Promised}
+use Rattle.rules.specs.declared.Resumed.the-variants.{Going}
+use Rattle.promises.specs.Unbounded.{Unbounded}
+use Rattle.promises.specs.Series.{Request, step, run, back, forget, State, Session, stateOf, ask, series, begin, left, resumed, SameSizes, fresh, Origin, reset, load, afresh, ahead, Promised}
 use Rattle.promises.specs.Whole.{NoForgets, Whole}
 use Rattle.promises.proofs.Runs.{none-undone, none-forgotten}
-use Rattle.promises.proofs.Demand3Reset.{Begins, origin-begins, reset-sized}
+use Rattle.promises.proofs.Demand3Held.{Begins}
+use Rattle.promises.proofs.Demand3Reset.{reset-sized}
+use Rattle.promises.proofs.Demand3Load.{load-sized}
+use Rattle.promises.proofs.Demand3Origin.{origin-begins}
 use Rattle.promises.proofs.Demand3Kept.{reached, Kept, kept-series}
 use Rattle.promises.proofs.Demand3.{far-is, promised, same-held}
 use Rattle.promises.proofs.KeepsUp.{steps-made}
@@ -72,8 +77,16 @@ demand3-whole p o x origin qs n =
 pub demand3-fresh : (p : Program) (m m′ : Memory) → Reset.reset p m .answer .begun ≡ Ready → SameSizes m m′ → length (m .history) ≡ length (m′ .history)
     → (qs : List Request) → NoForgets qs → Whole p (left (Reset.reset p m′)) (series p qs (begin (left (Reset.reset p m))))
 demand3-fresh p m m′ ready same history qs n =
-    let x : Unbounded = unmoved (Reset.reset p m .answer .registers) (Reset.reset p m .memory) in
-    let origin : Origin p (left (Reset.reset p m)) x =
-    reset m m ready ready (record { bits = refl; tags = refl; output = refl }) refl refl in
-    subst (λ (o : Reset.Started). Whole p (left o) (series p qs (begin (left (Reset.reset p m))))) (reset-sized p m m′ ready same history)
-    (demand3-whole p (left (Reset.reset p m)) x origin qs n)
+    let o : State = left (Reset.reset p m) in
+    let origin : Origin p o (fresh o) = reset m m ready ready (record { bits = refl; tags = refl; output = refl }) refl refl in
+    subst (λ (l : Reset.Started). Whole p (left l) (series p qs (begin o))) (reset-sized p m m′ ready same history)
+    (demand3-whole p o (fresh o) origin qs n)
+
+-- beside a fresh load of the same image, "in place of a fresh reset" (02 k)
+pub demand3-loaded : (p : Program) (image : List ℕ) (m m′ : Memory) → SavedState.load image p m .answer .resumed ≡ Going → SameSizes m m′ → length (m .history) ≡ length (m′ .history)
+    → (qs : List Request) → NoForgets qs → Whole p (resumed (SavedState.load image p m′)) (series p qs (begin (resumed (SavedState.load image p m))))
+demand3-loaded p image m m′ going same history qs n =
+    let o : State = resumed (SavedState.load image p m) in
+    let origin : Origin p o (fresh o) = load image m m going going (record { bits = refl; tags = refl; output = refl }) refl refl in
+    subst (λ (l : SavedState.Loading). Whole p (resumed l) (series p qs (begin o))) (load-sized image p m m′ going same history)
+    (demand3-whole p o (fresh o) origin qs n)

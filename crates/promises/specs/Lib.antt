@@ -4,6 +4,7 @@ pub mod Unbounded
 pub mod Series
 pub mod Agrees
 pub mod Whole
+pub mod Carried
 pub mod Refusals
 pub mod Addresses
 pub mod Dwells

@@ -1,8 +1,9 @@
--- Demand 3, as request i has it. Demand 3: "From the latest accepted reset, with one program throughout, take any series of steps, limited runs and step-backs,
+-- Demand 3, as requests i and k have it. Demand 3: "From the latest accepted reset, with one program throughout, take any series of steps, limited runs and step-backs,
 -- refused ones among them, with program, registers and memory handed back untouched between calls. If S steps (those inside runs too) and B step-backs were
 -- accepted, ..". Request i: "Demand 3's series now has these calls too. If F is the sum of the k of those accepted, step-back is now refused exactly when S minus B
--- equals F (or H = 0). Demand 3's fresh run is now made with room for all its records ..". Here is what they say, with request g's "How many steps can I take
--- back?"; proofs/Demand3.antt and proofs/TakesBack.antt show it. Assumes nothing.
+-- equals F (or H = 0). Demand 3's fresh run is now made with room for all its records ..". Request k: "demand 3 from then on reads "the latest reset or load", a fresh
+-- load in place of a fresh reset, with S, B and F counted from there." Here is what they say, with request g's "How many steps can I take back?";
+-- proofs/Demand3.antt and proofs/TakesBack.antt show it. Assumes nothing.
 use Prim.Native.Nat.{ℕ, _+_, _-_, _≤_, _<_, min}
 use mathlib.Core.Path.{_≡_}
 use mathlib.Core.Bool.{true, _||_, cond}
@@ -19,10 +20,12 @@ use Rattle.rules.specs.Back as Back
 use Rattle.rules.specs.Run as Run
 use Rattle.rules.specs.Reset as Reset
 use Rattle.rules.specs.Forget as Forget
+use Rattle.rules.specs.SavedState as SavedState
 use Rattle.rules.specs.declared.Registers.{Registers}
 use Rattle.rules.specs.declared.MachineRefusal.the-variants.{NoHistory}
 use Rattle.rules.specs.declared.ForgetRefusal.the-variants.{TooManySteps}
 use Rattle.rules.specs.declared.Begun.the-variants.{Ready}
+use Rattle.rules.specs.declared.Resumed.the-variants.{Going}
 use Rattle.rules.specs.declared.Step.{Step}
 use Rattle.rules.specs.declared.Step.the-variants.{Next, Refused}
 use Rattle.rules.specs.declared.Forgot.{Forgot}
@@ -133,9 +136,12 @@ afresh p o k = series p (replicate k step) (begin o)
 
 -- ---- where a series begins
 
--- what a reset leaves
+-- what a reset leaves, and what a load leaves
 abbrev pub left : Reset.Started → State
 left o = record { registers = o .answer .registers; memory = o .memory }
+
+abbrev pub resumed : SavedState.Loading → State
+resumed o = record { registers = o .answer .registers; memory = o .memory }
 
 -- "its other sizes the same": as many cells, tags and bytes of output, whatever they hold
 pub record SameSizes (m m′ : Memory) : Type 0 where
@@ -143,11 +149,18 @@ pub record SameSizes (m m′ : Memory) : Type 0 where
   pub tags : length (m .cells .tags) ≡ length (m′ .cells .tags)
   pub output : length (m .output) ≡ length (m′ .output)
 
--- An origin o, and x, where the fresh run beside it begins. "From the latest accepted reset": o is what a reset leaves that is accepted, and x what another leaves,
--- of lent memory of the same sizes but for its history, which x does without.
+-- of a machine, to run beside it without a history: no step is made
+abbrev pub fresh : State → Unbounded
+fresh o = unmoved (o .registers) (o .memory)
+
+-- An origin o, and x, where the fresh run beside it begins: "the latest reset or load". o is what a reset leaves that is accepted, and x what another leaves, of lent
+-- memory of the same sizes but for its history, which x does without; or what a load leaves that is accepted, and what another of the same image leaves. "The program
+-- handed to the load is demand 3's program from then on."
 pub data Origin (p : Program) (o : State) (x : Unbounded) : Type 0 where
   reset : (m m′ : Memory) → Reset.reset p m .answer .begun ≡ Ready → Reset.reset p m′ .answer .begun ≡ Ready → SameSizes m m′
-      → o ≡ left (Reset.reset p m) → x ≡ unmoved (Reset.reset p m′ .answer .registers) (Reset.reset p m′ .memory) → Origin p o x
+      → o ≡ left (Reset.reset p m) → x ≡ fresh (left (Reset.reset p m′)) → Origin p o x
+  load : (image : List ℕ) (m m′ : Memory) → SavedState.load image p m .answer .resumed ≡ Going → SavedState.load image p m′ .answer .resumed ≡ Going → SameSizes m m′
+      → o ≡ resumed (SavedState.load image p m) → x ≡ fresh (resumed (SavedState.load image p m′)) → Origin p o x
 
 -- ---- what is promised
 

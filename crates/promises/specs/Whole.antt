@@ -1,5 +1,5 @@
 -- Demand 3 in its own words, for series in which nothing is forgotten: "registers, cells, tags and history equal those of a fresh reset of the same sizes followed by S
--- minus B steps under demand 2". proofs/Whole.antt shows it. Assumes nothing.
+-- minus B steps under demand 2", or "a fresh load in place of a fresh reset" (02 k). proofs/Whole.antt shows it. Assumes nothing.
 use Prim.Native.Nat.{_≤_}
 use mathlib.Core.Path.{_≡_}
 use mathlib.Core.Bool.{_||_, cond}
@@ -19,7 +19,7 @@ NoForgets (run limit ∷ qs) = NoForgets qs
 NoForgets (back ∷ qs) = NoForgets qs
 NoForgets (forget k ∷ qs) = ⊥
 
--- what is promised of a session s, beside the steps from a fresh reset of the same sizes, which leaves o
+-- what is promised of a session s, beside the steps from a fresh reset or load of the same sizes, which leaves o
 pub record Whole (p : Program) (o : State) (s : Session) : Type 0 where
   -- no more is taken back than was made
   pub within : s .undone ≤ s .made

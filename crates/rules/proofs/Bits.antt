@@ -1,18 +1,20 @@
 -- The laws of bits as a list of 0 and 1: a field of its own number, and bytes of bits and back. Assumes nothing.
 use Prim.Native.Nat.{ℕ, zero, suc, _+_, _-_, _*_, _/_, _%_, _^_, _≤_, _<_}
 use mathlib.Core.Path.{_≡_, refl, sym, ap, ap₂, _∙_, subst}
-use mathlib.Core.List.{List, [], _∷_, _++_}
-use native.Mathlib.Nat.{mod-eq-of-lt, mod-lt, zero-div, zero-mul, zero-add, le-of-suc-le-suc, not-suc-le-zero, pow-succ'}
+use mathlib.Core.Bool.{Bool, false, _&&_}
+use mathlib.Core.List.{List, [], _∷_, _++_, append-assoc, append-nil}
+use native.Mathlib.Nat.{lt-of-lt-of-le, mod-eq-of-lt, mod-lt, zero-div, zero-mul, zero-add, le-of-suc-le-suc, not-suc-le-zero, pow-succ'}
 use native.Mathlib.Omega.{arith}
+use borrow.Author.Tests.{lt-ltb, le-ltb}
 use lib.Arith.{digits-lt}
-use lib.ListN.{length, take, drop, getD, replicate, length-append, length-replicate, length-drop, replicate-append-replicate}
-use lib.Pow.{high}
+use lib.Dec.{eqb}
+use lib.ListN.{length, take, drop, getD, replicate, length-append, length-take, length-replicate, length-drop, replicate-append-replicate}
+use lib.Pow.{high, pow-mono}
 use lib.Seq.{take-at, drop-at, length-take-le, take-add, take-append-add}
-use Rattle.rules.specs.Lists.{splice}
-use Rattle.rules.specs.Fields.{field, value, bitsOf, bytesOf}
-use Rattle.rules.specs.Image.{packedTo}
+use Rattle.rules.specs.Lists.{part, splice}
+use Rattle.rules.specs.Fields.{field, value, bitsOf, bytesOf, packedTo, padded}
 use Rattle.rules.proofs.Zeros.{take-zeros, drop-zeros}
-use Rattle.rules.proofs.Fields.{field-length, field-low, value-field}
+use Rattle.rules.proofs.Fields.{field-length, field-low, value-field, bitsOf-length}
 
 -- ---- each is 0 or 1
 
@@ -33,21 +35,31 @@ pub bits-zeros : (n : ℕ) → Bits (replicate n 0)
 bits-zeros zero = tt
 bits-zeros (suc n) = (omega arith, bits-zeros n)
 
-bits-take : (n : ℕ) (l : List ℕ) → Bits l → Bits (take n l)
+pub bits-take : (n : ℕ) (l : List ℕ) → Bits l → Bits (take n l)
 bits-take zero l x = tt
 bits-take (suc n) [] x = tt
 bits-take (suc n) (b ∷ l) x = (x .0, bits-take n l (x .1))
 
-bits-drop : (n : ℕ) (l : List ℕ) → Bits l → Bits (drop n l)
+pub bits-drop : (n : ℕ) (l : List ℕ) → Bits l → Bits (drop n l)
 bits-drop zero l x = x
 bits-drop (suc n) [] x = tt
 bits-drop (suc n) (b ∷ l) x = bits-drop n l (x .1)
 
-value-most : (l : List ℕ) → Bits l → value l < 2 ^ length l
+pub bits-bytes : (xs : List ℕ) → Bits (bitsOf xs)
+unfolding bitsOf
+bits-bytes [] = tt
+bits-bytes (x ∷ xs) = bits-append (field 8 x) (bitsOf xs) (bits-field 8 x) (bits-bytes xs)
+
+pub value-most : (l : List ℕ) → Bits l → value l < 2 ^ length l
 unfolding value
 value-most [] x = omega arith
 value-most (b ∷ l) x =
     subst (λ (k : ℕ). b * 2 ^ length l + value l < k) (sym (pow-succ' 2 (length l))) (digits-lt (x .0) (value-most l (x .1)))
+
+-- a part of w bits
+pub part-most : (l : List ℕ) → Bits l → (at w : ℕ) → value (part at w l) < 2 ^ w
+part-most l x at w =
+    lt-of-lt-of-le (value-most (part at w l) (bits-take w (drop at l) (bits-drop at l x))) (pow-mono (omega (arith, length-take w (drop at l))))
 
 -- bits are the field of their number
 pub field-value : (l : List ℕ) → Bits l → field (length l) (value l) ≡ l
@@ -86,14 +98,17 @@ splice-zeros n f =
 
 -- ---- bytes and bits
 
--- the bytes of bytes' bits are the bytes
-bytes-back : (xs : List ℕ) → ((i : ℕ) → getD xs i 0 < 2 ^ 8) → bytesOf (length xs) (bitsOf xs) ≡ xs
+-- the bytes of bytes' bits are the bytes, whatever stands behind them
+pub bytes-back : (xs rest : List ℕ) → ((i : ℕ) → getD xs i 0 < 2 ^ 8) → bytesOf (length xs) (bitsOf xs ++ rest) ≡ xs
 unfolding bytesOf bitsOf
-bytes-back [] h = refl
-bytes-back (x ∷ xs) h =
-    ap₂ (λ (v : ℕ) (l : List ℕ). v ∷ l)
-    (ap value (take-at (field 8 x) (bitsOf xs) 8 (field-length 8 x)) ∙ value-field 8 x ∙ mod-eq-of-lt (h 0))
-    (ap (bytesOf (length xs)) (drop-at (field 8 x) (bitsOf xs) 8 (field-length 8 x)) ∙ bytes-back xs (λ i. h (suc i)))
+bytes-back [] rest h = refl
+bytes-back (x ∷ xs) rest h =
+    let l : List ℕ = bitsOf xs ++ rest in
+    let e : bitsOf (x ∷ xs) ++ rest ≡ field 8 x ++ l = append-assoc (field 8 x) (bitsOf xs) rest in
+    ap₂ (λ (v : ℕ) (r : List ℕ). v ∷ r)
+    (ap (λ (b : List ℕ). value (take 8 b)) e ∙ ap value (take-at (field 8 x) l 8 (field-length 8 x)) ∙ value-field 8 x ∙ mod-eq-of-lt (h 0))
+    (ap (λ (b : List ℕ). bytesOf (length xs) (drop 8 b)) e ∙ ap (bytesOf (length xs)) (drop-at (field 8 x) l 8 (field-length 8 x))
+    ∙ bytes-back xs rest (λ i. h (suc i)))
 
 -- the bits of bits' bytes are the bits
 bits-back : (n : ℕ) (l : List ℕ) → Bits l → n * 8 ≤ length l → bitsOf (bytesOf n l) ≡ take (n * 8) l
@@ -113,7 +128,7 @@ take-bytes zero n l h = refl
 take-bytes (suc k) zero l h = absurd (not-suc-le-zero h)
 take-bytes (suc k) (suc n) l h = ap (λ (r : List ℕ). value (take 8 l) ∷ r) (take-bytes k n (drop 8 l) (le-of-suc-le-suc h))
 
-bytes-length : (n : ℕ) (l : List ℕ) → length (bytesOf n l) ≡ n
+pub bytes-length : (n : ℕ) (l : List ℕ) → length (bytesOf n l) ≡ n
 unfolding bytesOf
 bytes-length zero l = refl
 bytes-length (suc n) l = ap suc (bytes-length n (drop 8 l))
@@ -127,7 +142,7 @@ packed-length n l = bytes-length n (l ++ replicate (n * 8 - length l) 0)
 -- they are what the bits make, written over zeros
 pub packed-is : (n : ℕ) (xs f : List ℕ) → length xs ≡ n → ((i : ℕ) → getD xs i 0 < 2 ^ 8) → bitsOf xs ≡ splice (bitsOf (replicate n 0)) 0 f → xs ≡ packedTo n f
 unfolding packedTo
-packed-is n xs f el h e = sym (bytes-back xs h) ∙ ap₂ bytesOf el (e ∙ splice-zeros n f)
+packed-is n xs f el h e = sym (bytes-back xs [] h) ∙ ap₂ bytesOf el (append-nil (bitsOf xs) ∙ e ∙ splice-zeros n f)
 
 -- and the first k of them, enough for the bits, hold the bits and then zeros to a byte
 pub packed-bits : (k n : ℕ) (l : List ℕ) → Bits l → k ≤ n → length l ≤ k * 8 → bitsOf (take k (packedTo n l)) ≡ l ++ replicate (k * 8 - length l) 0
@@ -140,3 +155,16 @@ packed-bits k n l x h g =
     ∙ bits-back k (l ++ z) (bits-append l z x (bits-zeros (n * 8 - length l))) (omega (arith, length-append l z))
     ∙ ap (λ (i : ℕ). take i (l ++ z)) e ∙ take-append-add l z (k * 8 - length l)
     ∙ ap (λ (r : List ℕ). l ++ r) (take-zeros (k * 8 - length l) (n * 8 - length l) (omega arith))
+
+-- ---- what is left behind the first bits of bytes, and whether it is padding
+
+pub rest-length : (image : List ℕ) (at : ℕ) → length (drop at (bitsOf image)) ≡ length image * 8 - at
+rest-length image at = length-drop at (bitsOf image) ∙ ap (λ (n : ℕ). n - at) (bitsOf-length image)
+
+pub padded-long : (bits : List ℕ) → 8 ≤ length bits → padded bits ≡ false
+unfolding padded
+padded-long bits h = ap (λ (b : Bool). b && eqb (value bits) 0) (le-ltb _ _ h)
+
+pub padded-short : (bits : List ℕ) → length bits < 8 → padded bits ≡ eqb (value bits) 0
+unfolding padded
+padded-short bits h = ap (λ (b : Bool). b && eqb (value bits) 0) (lt-ltb _ _ h)

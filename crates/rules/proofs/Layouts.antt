@@ -1,14 +1,14 @@
 -- Layouts: fields side by side, of any widths and any count of them. What is laid out is read back, and its number is a sum of products: each law once
 -- for all layouts. Assumes nothing.
-use Prim.Native.Nat.{ℕ, zero, suc, _+_, _*_, _%_, _^_}
+use Prim.Native.Nat.{ℕ, zero, suc, _+_, _*_, _/_, _%_, _^_}
 use mathlib.Core.Path.{_≡_, refl, sym, ap, ap₂, _∙_}
 use mathlib.Core.List.{List, [], _∷_, _++_}
 use lib.ListN.{length, getD, take, drop, length-append}
 use lib.Seq.{drop-drop, take-at, drop-at}
 use Rattle.rules.specs.Lists.{part}
 use Rattle.rules.specs.Fields.{field, value, side, total, fieldIn}
-use Rattle.rules.proofs.Fields.{field-length, value-field, value-append}
-use Rattle.rules.proofs.Bits.{Bits, bits-append, bits-field}
+use Rattle.rules.proofs.Fields.{field-length, value-field, value-append, field-at}
+use Rattle.rules.proofs.Bits.{Bits, bits-append, bits-field, field-value}
 
 pub side-length : (ws vs : List ℕ) → length (side ws vs) ≡ total ws
 side-length [] vs = refl
@@ -57,3 +57,18 @@ side-value (w ∷ ws) (v ∷ vs) =
     value-append (field w v) (side ws vs)
     ∙ ap₂ (λ (x y : ℕ). x * 2 ^ length (side ws vs) + y) (value-field w v) (side-value ws vs)
     ∙ ap (λ (n : ℕ). v % 2 ^ w * 2 ^ n + sum ws vs) (side-length ws vs)
+
+-- ---- a layout as one number
+
+-- what is laid out is the field of its number
+pub laid-out : (ws vs : List ℕ) → field (total ws) (value (side ws vs)) ≡ side ws vs
+laid-out ws vs = ap (λ (n : ℕ). field n (value (side ws vs))) (sym (side-length ws vs)) ∙ field-value (side ws vs) (side-bits ws vs)
+
+-- field i of any number of n bits, with those behind it
+pub field-in : (ws : List ℕ) (i n v : ℕ) → total (take i ws) + getD ws i 0 + total (drop (suc i) ws) ≡ n
+    → fieldIn ws i (field n v) ≡ v / 2 ^ total (drop (suc i) ws) % 2 ^ getD ws i 0
+field-in ws i n v e =
+    let at = total (take i ws) in
+    let w = getD ws i 0 in
+    let k = total (drop (suc i) ws) in
+    ap (λ (m : ℕ). value (part at w (field m v))) (sym e) ∙ ap value (field-at at w k v) ∙ value-field w (v / 2 ^ k)

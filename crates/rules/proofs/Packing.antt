@@ -10,10 +10,10 @@ use lib.ListN.{length, take, getD, replicate, length-append}
 use lib.Seq.{take-suc}
 use Rattle.rules.specs.Lists.{splice}
 use Rattle.rules.specs.Sizes.{imageSize}
-use Rattle.rules.specs.Fields.{field}
+use Rattle.rules.specs.Fields.{field, packedTo}
 use Rattle.rules.specs.Instructions.{kindOf}
 use Rattle.rules.specs.Table.{Program, program, codeOf, operandOf, soundTable}
-use Rattle.rules.specs.Image.{countWidth, codeWidth, widthOf, instructionBits, programBits, imageBits, imageLength, packedTo, Filed, pack}
+use Rattle.rules.specs.Image.{countWidth, codeWidth, widthOf, instructionBits, programBits, imageBits, imageLength, Filed, pack}
 use Rattle.rules.specs.declared.Kind.{Kind}
 use Rattle.rules.specs.declared.Kind.the-variants.{Bare, Immediate, Pattern, Offset, Target, Character}
 use Rattle.rules.specs.declared.ImageRefusal.the-variants.{TableBroken, OutputLength}
@@ -36,20 +36,6 @@ width-most Character = omega arith
 pub instruction-length : (p : ℕ) → length (instructionBits p) ≡ codeWidth + widthOf (kindOf (codeOf p))
 unfolding instructionBits
 instruction-length p = length-append (field codeWidth (codeOf p)) _ ∙ ap₂ (λ (n m : ℕ). n + m) (field-length codeWidth (codeOf p)) (field-length _ (operandOf p))
-
--- a code and an operand written side by side
-pub instruction-written : (l x y : List ℕ) (at p code w o : ℕ) → code ≡ codeOf p → w ≡ widthOf (kindOf code) → o ≡ operandOf p → at + 38 ≤ length l
-    → x ≡ splice l at (field codeWidth code) → y ≡ splice x (at + codeWidth) (field w o) → y ≡ splice l at (instructionBits p)
-unfolding instructionBits
-instruction-written l x y at p code w o ec ew eo h ex ey =
-    let f : List ℕ = field codeWidth code in
-    let lf : length f ≡ codeWidth = field-length codeWidth code in
-    let le : at + codeWidth ≡ at + length f = omega arith in
-    ey ∙ ap₂ (λ (k : List ℕ) (i : ℕ). splice k i (field w o)) ex le
-    ∙ splice-beside l at f (field w o) (omega arith)
-    ∙ ap (splice l at)
-    (ap (λ (k : ℕ). f ++ field k o) (ew ∙ ap (λ (k : ℕ). widthOf (kindOf k)) ec)
-    ∙ ap₂ (λ (a b : ℕ). field codeWidth a ++ field (widthOf (kindOf (codeOf p))) b) ec eo)
 
 -- ---- instruction after instruction
 

@@ -6,21 +6,16 @@ use mathlib.Core.List.{List, [], _∷_}
 use native.Mathlib.Nat.{mod-eq-of-lt}
 use native.Mathlib.Omega.{arith}
 use lib.ListN.{getD, take, drop}
-use Rattle.rules.specs.Lists.{part}
-use Rattle.rules.specs.Fields.{field, value, side, total, fieldIn}
+use Rattle.rules.specs.Fields.{field, total, fieldIn}
 use Rattle.rules.specs.Places.{placeWidth, packed, fieldOf, cellLayout, stepLayout, cellPlace, stepPlace, mark, cellAddress, cellTag, cellBits, cellZeros, stepPc, stepSp, stepFbr, stepCount, stepZeros}
-use Rattle.rules.proofs.Fields.{value-field, field-at}
-use Rattle.rules.proofs.Bits.{field-value}
-use Rattle.rules.proofs.Layouts.{side-length, side-bits, side-read, side-value}
+use Rattle.rules.proofs.Layouts.{side-read, side-value, laid-out, field-in}
 
 -- ---- any place
 
 -- what is packed is read back, of a number that does not fit its low bits
 read-back : (ws vs : List ℕ) (i : ℕ) → total ws ≡ placeWidth → fieldOf ws i (packed ws vs) ≡ getD vs i 0 % 2 ^ getD ws i 0
 read-back ws vs i e =
-    ap (fieldIn ws i)
-    (ap (λ (n : ℕ). field n (packed ws vs)) (sym (side-length ws vs ∙ e)) ∙ field-value (side ws vs) (side-bits ws vs))
-    ∙ side-read ws vs i
+    ap (fieldIn ws i) (ap (λ (n : ℕ). field n (packed ws vs)) (sym e) ∙ laid-out ws vs) ∙ side-read ws vs i
 
 reads : (ws vs : List ℕ) (i : ℕ) → total ws ≡ placeWidth → getD vs i 0 < 2 ^ getD ws i 0 → fieldOf ws i (packed ws vs) ≡ getD vs i 0
 reads ws vs i e h = read-back ws vs i e ∙ mod-eq-of-lt h
@@ -28,11 +23,7 @@ reads ws vs i e h = read-back ws vs i e ∙ mod-eq-of-lt h
 -- field i of any place, with those behind it
 pub field-is : (ws : List ℕ) (i p : ℕ) → total (take i ws) + getD ws i 0 + total (drop (suc i) ws) ≡ placeWidth
     → fieldOf ws i p ≡ p / 2 ^ total (drop (suc i) ws) % 2 ^ getD ws i 0
-field-is ws i p e =
-    let at = total (take i ws) in
-    let w = getD ws i 0 in
-    let k = total (drop (suc i) ws) in
-    ap (λ (n : ℕ). value (part at w (field n p))) (sym e) ∙ ap value (field-at at w k p) ∙ value-field w (p / 2 ^ k)
+field-is ws i p e = field-in ws i placeWidth p e
 
 -- ---- the fields of the two places that are asked for as numbers
 

@@ -1,31 +1,25 @@
 -- The laws of the unpacker's definitions: each answer of each part, and a turn of a loop over the instructions. Assumes nothing.
-use Prim.Native.Nat.{ℕ, suc, _+_, _-_, _*_, _≤_, _<_}
+use Prim.Native.Nat.{ℕ, suc, _+_, _-_, _≤_, _<_}
 use mathlib.Core.Path.{_≡_, refl, sym, ap, ap₂, _∙_}
-use mathlib.Core.Bool.{Bool, true, false, cond, _&&_}
+use mathlib.Core.Bool.{Bool, true, false, cond}
 use mathlib.Core.List.{List, [], _∷_, _++_, append-assoc, append-nil}
 use native.Mathlib.Numerals.{add-one}
 use native.Mathlib.Omega.{arith}
 use borrow.Author.Tests.{lt-ltb, le-ltb, le-leb, lt-leb, eq-eqb, ne-eqb}
-use lib.Dec.{ltb, eqb}
-use lib.ListN.{length, take, drop, set, replicate, length-drop, take-append-drop}
-use lib.Seq.{take-suc-set, drop-set-lt, length-take-le, drop-drop}
+use lib.Dec.{ltb}
+use lib.ListN.{length, take, drop, set, replicate, take-append-drop}
+use lib.Seq.{take-suc-set, length-take-le, drop-drop}
 use Rattle.rules.specs.Sizes.{maxProgram}
-use Rattle.rules.specs.Fields.{value, bitsOf}
+use Rattle.rules.specs.Fields.{value, bitsOf, padded}
 use Rattle.rules.specs.Instructions.{codes, kindOf}
 use Rattle.rules.specs.Table.{placeOf, within}
-use Rattle.rules.specs.Image.{countWidth, codeWidth, widthOf, extended, takeOperand, takeOne, Unpacking, places, unfit, prepend, padded, atEnd, followed, unpackFrom, unpacked, denied, filed, unpack}
+use Rattle.rules.specs.Image.{countWidth, codeWidth, widthOf, extended, takeOperand, takeOne, Unpacking, places, unfit, prepend, atEnd, followed, unpackFrom, unpacked, denied, filed, unpack}
 use Rattle.rules.specs.declared.ImageRefusal.{ImageRefusal}
 use Rattle.rules.specs.declared.ImageRefusal.the-variants.{OutputLength, EndsEarly, CountTooHigh, CodeTooHigh, OperandOutside, BadPadding}
 use Rattle.rules.specs.declared.Packed.the-variants.{Length, Denied}
 use Rattle.rules.specs.declared.Taken.{Taken}
 use Rattle.rules.specs.declared.Taken.the-variants.{Place, Unfit}
 use Rattle.rules.proofs.Outputs.{blanked-right}
-use Rattle.rules.proofs.Fields.{bitsOf-length}
-use Rattle.rules.proofs.Zeros.{drop-zeros}
-
--- the bits that are left
-pub rest-length : (image : List ℕ) (at : ℕ) → length (drop at (bitsOf image)) ≡ length image * 8 - at
-rest-length image at = length-drop at (bitsOf image) ∙ ap (λ (n : ℕ). n - at) (bitsOf-length image)
 
 -- two tests, each of which is known
 conds : {A : Type 0} (a b c : A) {x y u v : Bool} → x ≡ u → y ≡ v → cond x a (cond y b c) ≡ cond u a (cond v b c)
@@ -63,16 +57,6 @@ module _ (count : ℕ) (bits : List ℕ) where
   pub one-operand : codeWidth ≤ length bits → value (take codeWidth bits) < codes → takeOne count bits ≡ takeOperand count (value (take codeWidth bits)) (drop codeWidth bits)
   unfolding takeOne
   one-operand h g = conds _ _ _ (le-ltb _ _ h) (lt-leb codes _ g)
-
--- ---- what is left at the end
-
-pub padded-long : (bits : List ℕ) → 8 ≤ length bits → padded bits ≡ false
-unfolding padded
-padded-long bits h = ap (λ (b : Bool). b && eqb (value bits) 0) (le-ltb _ _ h)
-
-pub padded-short : (bits : List ℕ) → length bits < 8 → padded bits ≡ eqb (value bits) 0
-unfolding padded
-padded-short bits h = ap (λ (b : Bool). b && eqb (value bits) 0) (lt-ltb _ _ h)
 
 -- ---- the whole image
 module _ (image : List ℕ) where
@@ -129,12 +113,6 @@ module _ (u : Unpacking) (n i at : ℕ) (table bits : List ℕ) (hn : i < n)
       ∙ ap₂ (λ (ps l : List ℕ). prepend ps (unpackFrom n (n - (i + 1)) l))
       (sym (take-suc-set table i p h) ∙ ap (λ (k : ℕ). take k (set table i p)) (sym (add-one i)))
       (drop-drop taken at bits)
-
-pub turn-rest : (table : List ℕ) (i p : ℕ) → i < maxProgram → drop i table ≡ replicate (maxProgram - i) 0
-    → drop (i + 1) (set table i p) ≡ replicate (maxProgram - (i + 1)) 0
-turn-rest table i p h e =
-    let f : maxProgram - i - 1 ≡ maxProgram - (i + 1) = omega arith in
-    drop-set-lt (i + 1) table i p (omega arith) ∙ sym (drop-drop 1 i table) ∙ ap (drop 1) e ∙ drop-zeros 1 (maxProgram - i) ∙ ap (λ (k : ℕ). replicate k 0) f
 
 -- the end of that loop
 module _ (image table : List ℕ) (n at : ℕ) (e : unpacked image ≡ prepend (take n table) (unpackFrom n 0 (drop at (bitsOf image)))) where

@@ -1,7 +1,9 @@
--- Fields of bits, "packed most significant bit first": in history places, and in images. A bit is the number 0 or 1. Assumes nothing.
-use Prim.Native.Nat.{ℕ, zero, suc, _+_, _*_, _/_, _%_, _^_}
+-- Fields of bits, "packed most significant bit first": in history places, in images, and in saved states. A bit is the number 0 or 1. Assumes nothing.
+use Prim.Native.Nat.{ℕ, zero, suc, _+_, _-_, _*_, _/_, _%_, _^_}
+use mathlib.Core.Bool.{Bool, _&&_}
 use mathlib.Core.List.{List, [], _∷_, _++_}
-use lib.ListN.{length, getD, take, drop}
+use lib.Dec.{ltb, eqb}
+use lib.ListN.{length, getD, take, drop, replicate}
 use Rattle.rules.specs.Lists.{part}
 
 -- the w low bits of v
@@ -23,6 +25,18 @@ bitsOf (b ∷ bs) = field 8 b ++ bitsOf bs
 unfoldable pub bytesOf : ℕ → List ℕ → List ℕ
 bytesOf zero l = []
 bytesOf (suc n) l = value (take 8 l) ∷ bytesOf n (drop 8 l)
+
+-- n bytes that hold the bits and then zeros
+unfoldable pub packedTo : ℕ → List ℕ → List ℕ
+packedTo n l = bytesOf n (l ++ replicate (n * 8 - length l) 0)
+
+-- how many bytes hold so many bits: "zeros to a byte"
+abbrev pub bytesFor : ℕ → ℕ
+bytesFor n = (n + 7) / 8
+
+-- not "padding not zero or bytes left over": fewer than 8 bits, all zero
+unfoldable pub padded : List ℕ → Bool
+padded bits = ltb (length bits) 8 && eqb (value bits) 0
 
 -- ---- a layout: the widths of fields side by side
 

@@ -33,6 +33,9 @@ pub const LISTING_SIZE: usize = 20_480;
 
 pub const IMAGE_SIZE: usize = 4_866;
 
+// "the lent output is 4,638 bytes" (02 k)
+pub const STATE_SIZE: usize = 4_638;
+
 // "ADDSP and offsets −999..999"
 pub const MAX_OFFSET: u32 = 999;
 

@@ -1,6 +1,7 @@
 -- From what the callees ensure to a whole call: the number, what is told and what is left, put together. Assumes nothing.
 use Prim.Native.Nat.{ℕ}
-use mathlib.Core.Path.{_≡_, sym, ap, _∙_}
+use mathlib.Core.Path.{_≡_, refl, sym, ap, _∙_}
+use mathlib.Core.Bool.{Bool, true, false, _&&_}
 use mathlib.Core.List.{List, [], _∷_}
 use lib.ListN.{length}
 use Rattle.rules.specs.Outputs.{blanked}
@@ -9,7 +10,8 @@ use Rattle.rules.specs.Reset.{Started}
 use Rattle.rules.specs.Step.{Stepped}
 use Rattle.rules.specs.Run.{Ran}
 use Rattle.rules.specs.Forget.{Forgets}
-use Rattle.rules.specs.Numbers.{numberOfReset, numberOfStep, registersAfter, numberOfEnding, numberOfDwell, tenthsOfDwell, numberOfForgot, registersForgot, numberOfChecked, placeOfChecked}
+use Rattle.rules.specs.SavedState.{Saving, Loading}
+use Rattle.rules.specs.Numbers.{numberOfReset, numberOfStep, registersAfter, numberOfEnding, numberOfDwell, tenthsOfDwell, numberOfForgot, registersForgot, numberOfChecked, placeOfChecked, numberOfSaved, lengthOfSaved, numberOfLoad}
 use Rattle.rules.specs.declared.Registers.{Registers}
 use Rattle.rules.specs.declared.Reset.{Reset}
 use Rattle.rules.specs.declared.Step.{Step}
@@ -17,9 +19,12 @@ use Rattle.rules.specs.declared.Run.{Run}
 use Rattle.rules.specs.declared.Dwell.{Dwell}
 use Rattle.rules.specs.declared.Forgot.{Forgot}
 use Rattle.rules.specs.declared.Checked.{Checked}
+use Rattle.rules.specs.declared.Saved.{Saved}
+use Rattle.rules.specs.declared.Load.{Load}
 use Rattle.state.specs.Outcomes.{started, stepped}
 use Rattle.forget.specs.Outcomes.{forgot}
-use Rattle.sam_c.specs.Calls.{Filled, Moved, filled, moved, ofLength, notItsLength, untold, registerCount, listOf, registersOf, resetMoved, stepMoved, forgetMoved, Walked, walked, runWalked, Answered, answered, dwellAnswered, depthsAnswered}
+use Rattle.saved.specs.Outcomes.{saving, loading}
+use Rattle.sam_c.specs.Calls.{Filled, Moved, filled, moved, ofLength, notItsLength, untold, registerCount, listOf, registersOf, resetMoved, stepMoved, forgetMoved, loadMoved, notLoadedInto, saveFilled, Walked, walked, runWalked, Answered, answered, dwellAnswered, depthsAnswered}
 use Rattle.sam_c.proofs.Lent.{of-length, of-another}
 
 -- a call that fills an output, whose answer is a′ and which leaves out′
@@ -40,6 +45,12 @@ module _ (l : List ℕ) (h : length l ≡ registerCount) (instead : Moved) where
       → moved k registers (memory bits tags history output) ≡ ofLength registerCount l (resetMoved s) instead
   reset-called {bits = bits} {tags = tags} {history = history} {output = output} es el ek =
       (λ i. moved (ek i) (el i) (memory bits tags history output)) ∙ ap resetMoved es ∙ sym (of-length registerCount l _ _ h)
+
+  pub load-called : {k : ℕ} {a : Load} {o : Loading} {registers bits tags history output : List ℕ} → loading a bits tags history output ≡ o
+      → registers ≡ listOf (a .registers) → k ≡ numberOfLoad (a .resumed)
+      → moved k registers (memory bits tags history output) ≡ ofLength registerCount l (loadMoved o) instead
+  load-called {bits = bits} {tags = tags} {history = history} {output = output} eo el ek =
+      (λ i. moved (ek i) (el i) (memory bits tags history output)) ∙ ap loadMoved eo ∙ sym (of-length registerCount l _ _ h)
 
   -- a call f on a machine, of whose outcome g makes what is given and left
   moved-called : {A : Type 0} (g : Registers → A → Moved) (f : Registers → A) {r : Registers} {a : A} → r ≡ registersOf l → a ≡ f r
@@ -83,6 +94,23 @@ module _ (t : List ℕ) (ht : length t ≡ 1) (l : List ℕ) (h : length l ≡ r
       ∙ ap (λ (q : Registers). dwellAnswered (f q)) er
       ∙ sym (of-length registerCount l _ _ h)
       ∙ sym (of-length 1 t _ _ ht)
+
+-- a save f, which answers a and leaves that image
+module _ (t : List ℕ) (ht : length t ≡ 1) (l : List ℕ) (h : length l ≡ registerCount) (other instead : Filled) where
+  pub save-called : (f : Registers → Saving) {k n : ℕ} {r : Registers} {a : Saved} {told image : List ℕ} → r ≡ registersOf l → saving a image ≡ f r
+      → told ≡ n ∷ [] → n ≡ lengthOfSaved a → k ≡ numberOfSaved a
+      → filled k told image ≡ ofLength 1 t (ofLength registerCount l (saveFilled (f (registersOf l))) other) instead
+  save-called f {image = image} er es et en ek =
+      (λ i. filled (ek i) ((et ∙ ap (λ (x : ℕ). x ∷ []) en) i) image)
+      ∙ ap saveFilled es
+      ∙ ap (λ (q : Registers). saveFilled (f q)) er
+      ∙ sym (of-length registerCount l _ _ h)
+      ∙ sym (of-length 1 t _ _ ht)
+
+-- what comes before 10 at a load: that it is taken in is asked of a complete image
+pub not-loaded-by : (a b : Bool) → notLoadedInto a (a && b) ≡ notLoadedInto a b
+not-loaded-by true b = refl
+not-loaded-by false b = refl
 
 -- a judgement, which answers d′
 pub depths-called : (t : List ℕ) (ht : length t ≡ 1) (instead : Answered) {k : ℕ} {d d′ : Checked} {place : ℕ} {told : List ℕ} → d ≡ d′ → told ≡ place ∷ []

@@ -7,12 +7,13 @@ use mathlib.Core.List.{List, [], _∷_}
 use lib.ListN.{replicate}
 use lib.Dec.{eqb}
 use Rattle.rules.specs.Lists.{text, every, same}
-use Rattle.rules.specs.Sizes.{maxProgram, maxHistory, maxOutput, maxLimit, listingSize, imageSize}
+use Rattle.rules.specs.SavedState as SavedState
+use Rattle.rules.specs.Sizes.{maxProgram, maxHistory, maxOutput, maxLimit, listingSize, imageSize, stateSize}
 use Rattle.rules.specs.Table.{Program, program}
 use Rattle.rules.specs.State.{Memory, memory}
 use Rattle.rules.specs.Examples.{programOf, holds}
 use Rattle.rules.specs.DepthList.{check}
-use Rattle.sam_c.specs.Calls.{Filled, Moved, ofLength, assembleCall, listCall, packCall, unpackCall, resetCall, forgetCall, runCall, depthsCall}
+use Rattle.sam_c.specs.Calls.{Filled, Moved, ofLength, notSavedFrom, assembleCall, listCall, packCall, unpackCall, resetCall, forgetCall, runCall, depthsCall, loadCall, saveCall}
 
 -- what stood in every lent place before
 abbrev old : ℕ → List ℕ
@@ -54,6 +55,19 @@ runs number limit registers told after =
     let w = runCall (programOf "STOP") limit (old registers) m told in
     stays (w .moved) number (old registers) m && same (w .told) after
 
+-- a save of a machine with so many registers into an image of so many bytes
+abbrev saves : (number registers image : ℕ) → (told after left : List ℕ) → Bool
+saves number registers image told after left =
+    let f = saveCall (programOf "STOP") (old registers) (memory (old 2) (old 2) (old 3) (old 2)) (old image) told in
+    eqb (f .number) number && same (f .told) after && same (f .output) left
+
+-- a load of an image of one cell, INT 0, into that memory with so many registers
+abbrev loads : (number registers : ℕ) → (image : List ℕ) → Memory → Bool
+loads number registers image m = stays (loadCall image (programOf "STOP") (old registers) m) number (old registers) m
+
+abbrev oneCell : List ℕ
+oneCell = 0x00 ∷ 0x40 ∷ zeros 9
+
 -- a depth list of a machine of N cells, with so many values to tell, which are told as these
 abbrev judges : (number : ℕ) → Program → (n : ℕ) (depths told after : List ℕ) → Bool
 judges number p n depths told after =
@@ -92,8 +106,22 @@ lengths =
     ∷ judges 10 (program [] 1) 0 [] (old 1) (zeros 1)
     ∷ judges 11 (programOf "STOP") 0 [] (old 1) (zeros 1)
     ∷ judges 64 (programOf "STOP") 1 [] (old 1) (zeros 1)
+    -- "Refusals for save: 31, then 10." (02 k): a told of another length before both, and registers of another length in 10's place; "Refused writers .. zero one
+    -- of right length, .. and tell length 0"
+    ∷ saves 31 8 stateSize (old 2) (old 2) (zeros stateSize)
+    ∷ saves 31 9 3 [] [] (old 3)
+    ∷ saves 31 8 3 (old 1) (zeros 1) (old 3)
+    ∷ saves 10 8 stateSize (old 1) (zeros 1) (zeros stateSize)
+    ∷ saves 10 9 stateSize (old 1) (zeros 1) (zeros stateSize)
+    -- "For load, in this order: 41 ..; 67 ..; 10 .." (02 k): an image that ends early, one cell too many, and registers of another length
+    ∷ loads 41 8 (zeros 6) (memory (old 1) (old 1) [] [])
+    ∷ loads 41 8 (0x00 ∷ 0x40 ∷ zeros 8) (memory (old 2) (old 1) [] [])
+    ∷ loads 67 10 oneCell (memory (old 2) (old 2) [] [])
+    ∷ loads 67 8 oneCell (memory (old 1) (old 1) [] (old (maxOutput + 1)))
+    ∷ loads 10 8 oneCell (memory (old 1) (old 1) (old 2) (old 2))
+    ∷ loads 10 0 oneCell (memory (old 1) (old 1) [] [])
     ∷ []
 
 pub all-lengths : every lengths ≡ true
-unfolding lengths ofLength holds check
+unfolding lengths ofLength notSavedFrom holds check SavedState.save SavedState.stateBits SavedState.registersIn SavedState.columnIn SavedState.bytesIn SavedState.load
 all-lengths = refl

@@ -8,13 +8,12 @@ use native.Mathlib.Omega.{arith}
 use borrow.Author.Tests.{eqb-true}
 use Rattle.rules.specs.Lists.{every}
 use Rattle.rules.specs.Table.{Program, soundTable}
-use Rattle.rules.specs.State.{Memory, soundCell, soundCells, keptSizes, registersWithin, outputWithin, sound}
+use Rattle.rules.specs.State.{Memory, soundCell, soundCells, keptSizes, registersWithin, outputWithin, rangeTests, sound}
 use Rattle.rules.specs.declared.Registers.{Registers}
-use Rattle.rules.proofs.Tests.{every-at, drop-next}
+use Rattle.rules.proofs.Tests.{and-then, every-at, drop-next}
 use Rattle.rules.proofs.Table.{table-short, table-long}
 use Rattle.rules.proofs.Fair.{Sound}
 use Rattle.rules.proofs.FairEffects.{sound-facts}
-use Rattle.rules.proofs.Tests.{and-then}
 use Rattle.state.specs.Held.{Held}
 
 -- ---- the loop over the cells: one cell more, and no cell left
@@ -28,21 +27,47 @@ cells-next count ts bs i b ht hb e =
 pub cells-done : (count : ℕ) (ts bs : List ℕ) (i : ℕ) → length ts ≤ i → soundCells count (drop i ts) (drop i bs) ≡ true
 cells-done count ts bs i h = ap (λ (l : List ℕ). soundCells count l (drop i bs)) (drop-of-length-le ts h)
 
--- ---- the parts of a state's tests
+-- ---- the ranges, in the parts that are judged one by one: the early returns of the judgement, and its end
+module _ (p : Program) (r : Registers) (bits tags history output : ℕ) where
+  abbrev ranged : Bool
+  ranged = every (rangeTests p r bits tags history output)
 
--- those of the sizes, and those of the output
-abbrev pub sizes : Registers → Memory → List Bool
-sizes r m = keptSizes r (length (m .cells .bits)) (length (m .cells .tags)) (length (m .history))
+  range-parts : ranged
+      ≡ (soundTable p && (every (keptSizes r bits tags history) && (every (registersWithin (p .count) r) && every (outputWithin (r .written) output))))
+  range-parts = simp (and-true, and-assoc)
 
-abbrev pub panel : Registers → Memory → List Bool
-panel r m = outputWithin (r .written) (length (m .output))
+  pub range-table : soundTable p ≡ false → ranged ≡ false
+  range-table h = range-parts ∙ rw h refl
 
+  module _ (made : soundTable p ≡ true) where
+    pub range-sizes : every (keptSizes r bits tags history) ≡ false → ranged ≡ false
+    range-sizes h = range-parts ∙ and-then made (rw h refl)
+
+    module _ (sized : every (keptSizes r bits tags history) ≡ true) where
+      pub range-registers : every (registersWithin (p .count) r) ≡ false → ranged ≡ false
+      range-registers h = range-parts ∙ and-then made (and-then sized (rw h refl))
+
+      pub range-output : every (registersWithin (p .count) r) ≡ true → ranged ≡ every (outputWithin (r .written) output)
+      range-output h = range-parts ∙ and-then made (and-then sized (and-then h refl))
+
+-- ---- a state: its ranges, and then its cells
 module _ (p : Program) (r : Registers) (m : Memory) where
-  pub sound-parts : sound p r m
-      ≡ (soundTable p
-      && (every (sizes r m) && (every (registersWithin (p .count) r) && (every (panel r m) && soundCells (p .count) (m .cells .tags) (m .cells .bits)))))
+  -- those of its lent slices
+  abbrev pub ranges : List Bool
+  ranges = rangeTests p r (length (m .cells .bits)) (length (m .cells .tags)) (length (m .history)) (length (m .output))
+
+  sound-parts : sound p r m ≡ (every ranges && soundCells (p .count) (m .cells .tags) (m .cells .bits))
   unfolding sound
   sound-parts = simp (and-true, and-assoc)
+
+  pub sound-ranges : every ranges ≡ false → sound p r m ≡ false
+  sound-ranges h = sound-parts ∙ rw h refl
+
+  pub sound-cells : every ranges ≡ true → sound p r m ≡ soundCells (p .count) (m .cells .tags) (m .cells .bits)
+  sound-cells h = sound-parts ∙ and-then h refl
+
+  pub cells-equal : every ranges ≡ true → length (m .cells .tags) ≡ length (m .cells .bits)
+  cells-equal h = eqb-true _ _ (every-at ranges 5 h) ∙ sym (eqb-true _ _ (every-at ranges 4 h))
 
   -- what a sound state gives
   pub held : sound p r m ≡ true → Held p r m
@@ -57,25 +82,3 @@ module _ (p : Program) (r : Registers) (m : Memory) where
         none = s .none;
         written = s .written;
       }
-
-  -- the early returns of the judgement, and its end
-  module _ (made : soundTable p ≡ true) where
-    pub sound-sizes : every (sizes r m) ≡ false → sound p r m ≡ false
-    sound-sizes h = sound-parts ∙ and-then made (rw h refl)
-
-    module _ (sized : every (sizes r m) ≡ true) where
-      pub sound-registers : every (registersWithin (p .count) r) ≡ false → sound p r m ≡ false
-      sound-registers h = sound-parts ∙ and-then made (and-then sized (rw h refl))
-
-      pub cells-equal : length (m .cells .tags) ≡ length (m .cells .bits)
-      cells-equal = eqb-true _ _ (every-at (sizes r m) 4 sized) ∙ sym (eqb-true _ _ (every-at (sizes r m) 3 sized))
-
-      module _ (within : every (registersWithin (p .count) r) ≡ true) where
-        pub sound-output : every (panel r m) ≡ false → sound p r m ≡ false
-        sound-output h = sound-parts ∙ and-then made (and-then sized (and-then within (rw h refl)))
-
-        pub sound-cells : every (panel r m) ≡ true → sound p r m ≡ soundCells (p .count) (m .cells .tags) (m .cells .bits)
-        sound-cells h = sound-parts ∙ and-then made (and-then sized (and-then within (and-then h refl)))
-
-  pub sound-table : soundTable p ≡ false → sound p r m ≡ false
-  sound-table h = sound-parts ∙ rw h refl

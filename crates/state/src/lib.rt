@@ -9,7 +9,7 @@ ghost use mathlib.Core.Path.{_≡_};
 ghost use lib.ListN.{length, replicate};
 ghost use Rattle.rules.specs.Lists.{every};
 ghost use Rattle.rules.specs.Table.{program};
-ghost use Rattle.rules.specs.State.{memory, soundCell, soundCells, keptSizes, keptWithin, outputWithin, registersWithin, sound};
+ghost use Rattle.rules.specs.State.{memory, soundCell, soundCells, keptSizes, keptWithin, outputWithin, registersWithin, rangeTests, sound};
 ghost use Rattle.rules.specs.Reset.{cleared, startSizes, reset};
 ghost use Rattle.state.specs.Outcomes.{started};
 
@@ -114,6 +114,33 @@ fn are_sound_cells(count: usize, tags: &[u8], bits: &[u32]) -> bool
     true
 }
 
+// Whether a table, registers and lent slices of these lengths are within the ranges that each call asks for that is handed registers: all but the cells.
+pub fn is_in_range(
+    table: &[u64],
+    length: usize,
+    r: Registers,
+    bits: usize,
+    tags: usize,
+    history: usize,
+    output: usize,
+) -> bool
+    ensures { λ a. ⌜ a ≡ every (rangeTests (program (now (table .entry)) length) r bits tags history output) ⌝ }
+{
+    let made = program::table::is_sound(table, length);
+    if !made {
+        return false;
+    }
+    let sized = has_kept_sizes(r, bits, tags, history);
+    if !sized {
+        return false;
+    }
+    let within = has_registers_within(r, length);
+    if !within {
+        return false;
+    }
+    has_output_within(r.written, output)
+}
+
 // Whether a table, registers and lent slices are what the calls that are handed registers take: where not, they answer 10.
 pub fn is_sound(
     table: &[u64],
@@ -126,20 +153,16 @@ pub fn is_sound(
 ) -> bool
     ensures { λ a. ⌜ a ≡ sound (program (now (table .entry)) length) r (memory (now (bits .entry)) (now (tags .entry)) (now (history .entry)) (now (output .entry))) ⌝ }
 {
-    let made = program::table::is_sound(table, length);
-    if !made {
-        return false;
-    }
-    let sized = has_kept_sizes(r, bits.len(), tags.len(), history.len());
-    if !sized {
-        return false;
-    }
-    let within = has_registers_within(r, length);
-    if !within {
-        return false;
-    }
-    let written = has_output_within(r.written, output.len());
-    if !written {
+    let ranged = is_in_range(
+        table,
+        length,
+        r,
+        bits.len(),
+        tags.len(),
+        history.len(),
+        output.len(),
+    );
+    if !ranged {
         return false;
     }
     are_sound_cells(length, tags, bits)
@@ -179,7 +202,7 @@ fn clear_cells(bits: &mut [u32], tags: &mut [u8])
 }
 
 // Registers with N and H, and all else 0.
-fn zero_registers(n: usize, h: usize) -> Registers
+pub fn zero_registers(n: usize, h: usize) -> Registers
     ensures { λ r. ⌜ r ≡ cleared n h ⌝ }
 {
     Registers {

@@ -10,29 +10,26 @@ use Rattle.rules.specs.Sizes.{imageSize}
 use Rattle.rules.specs.Fields.{bitsOf}
 use Rattle.rules.specs.Table.{program}
 use Rattle.rules.specs.Image.{countWidth, instructionBits, imageBits, imageLength}
-use Rattle.image.specs.Reach.{widest}
 use Rattle.rules.proofs.Fields.{bitsOf-length, field-length}
 use Rattle.rules.proofs.Bits.{packed-is}
 use Rattle.rules.proofs.Packing.{front, front-none, front-all, front-more, front-written}
+use Rattle.fields.proofs.Within.{written-inside}
+use Rattle.image.specs.Longest.{longest}
+use Rattle.image.proofs.Instructions.{written-most}
 use Rattle.image.proofs.writing.write_image.Statement.{statement}
 use Rattle.image.proofs.writing.write_image.Tie as tie
 
 abbrev Inv-loop : tie.InvT-loop
 Inv-loop table count image₀ at₀ i₀ image at i =
-    (i ≤ count) × (at ≤ countWidth + widest * i) × (length image ≡ imageSize) × (at ≡ length (front table count i))
+    (i ≤ count) × (at ≤ countWidth + longest * i) × (length image ≡ imageSize) × (at ≡ length (front table count i))
     × (bitsOf image ≡ splice (bitsOf (replicate imageSize 0)) 0 (front table count i))
     × ((k : ℕ) → getD image k 0 < 2 ^ 8)
 
 abbrev μ-loop : tie.MeasureT-loop
 μ-loop table count image₀ at₀ i₀ image at i = count - i
 
-cast-put : tie.Need-cast-put Inv-loop μ-loop
-cast-put c = omega arith
-
 put-requires : tie.Need-put-requires Inv-loop μ-loop
-put-requires c κs =
-    let e : length (now (c .before .before .before .args .image)) ≡ imageSize = ap length (c .before .before .before .pre .2) ∙ length-replicate {A = ℕ} imageSize 0 in
-    omega arith
+put-requires c κs = tt
 
 loop-holds : tie.Need-loop-holds Inv-loop μ-loop
 loop-holds c =
@@ -42,7 +39,8 @@ loop-holds c =
       omega arith,
       c .before .before .put .kept .0 ∙ e,
       sym (ap length (front-none (now (a .table)) (a .count)) ∙ field-length 11 (a .count)),
-      c .before .before .put .ensures ∙ ap₂ (λ (l f : List ℕ). splice (bitsOf l) 0 f) (c .before .before .before .before .before .before .pre .2) (sym (front-none (now (a .table)) (a .count))),
+      c .before .before .put .ensures ∙ written-inside (bitsOf (now (a .image))) 0 11 (a .count) (omega arith) (omega (arith, bitsOf-length (now (a .image))))
+          ∙ ap₂ (λ (l f : List ℕ). splice (bitsOf l) 0 f) (c .before .before .before .before .before .before .pre .2) (sym (front-none (now (a .table)) (a .count))),
       λ k. c .slice-known2 .given k .fits,
     )
 
@@ -70,9 +68,9 @@ loop-again c =
     let lz : length z ≡ 38928 = bitsOf-length (replicate imageSize 0) ∙ ap (λ (k : ℕ). k * 8) (length-replicate {A = ℕ} imageSize 0) in
     let h : t .i < length (now (a .table)) = omega arith in (
       omega arith,
-      omega arith,
+      omega (arith, q .ensures .1, written-most (getD (now (a .table)) (t .i) 0)),
       q .kept .0 ∙ t .inv .2,
-      q .ensures .1 .0 ∙ ap (λ (k : ℕ). k + length (instructionBits (getD (now (a .table)) (t .i) 0))) (t .inv .3)
+      q .ensures .1 ∙ ap (λ (k : ℕ). k + length (instructionBits (getD (now (a .table)) (t .i) 0))) (t .inv .3)
           ∙ sym (ap length (front-more (now (a .table)) (a .count) (t .i) h) ∙ length-append (front (now (a .table)) (a .count) (t .i)) _),
       front-written z (bitsOf (t .image)) _ (now (a .table)) (a .count) (t .i) (t .at) h (t .inv .3) (omega arith) (t .inv .4) (q .ensures .0),
       λ k. c .slice-known3 .given k .fits,
@@ -103,7 +101,6 @@ write-image-spec =
     (tie.spec
     Inv-loop
     μ-loop
-    cast-put
     put-requires
     loop-holds
     mul-put-instruction

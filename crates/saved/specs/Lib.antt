@@ -1,0 +1,3 @@
+-- What the contracts of `saved` cite besides the rules.
+pub mod Outcomes
+pub mod Reach
