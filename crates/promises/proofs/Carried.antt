@@ -27,9 +27,9 @@ use Rattle.rules.proofs.Bits.{bytes-back}
 use Rattle.rules.proofs.SavedState.{isComplete, isLent, isSound, isPadded, save-done, load-done, cells-saved-length, state-bits, state-length, state-fits}
 use Rattle.rules.proofs.Fair.{Sound}
 use Rattle.rules.proofs.FairEffects.{sound-facts}
-use Rattle.rules.proofs.Sound.{facts-sound}
 use Rattle.promises.specs.Series.{resumed}
 use Rattle.promises.specs.Carried.{Typed, TakesIn, toldImage, carriedTo, CarriedOver}
+use Rattle.promises.proofs.Demand3Good.{sound-beside}
 use Rattle.promises.proofs.Padding.{paddingOf, padding-padded, told-length, told-bits}
 
 -- ---- what is laid out is read back, whatever stands behind it
@@ -142,31 +142,6 @@ module _ (p : Program) (r : Registers) (m : Memory) (s : Sound p r m) (t : Typed
       ap₂ bytesOf (sym (length-take-le (r .written) (m .output) (s .written))) behind-body
       ∙ bytes-back bytes pad (take-typed 8 (r .written) (m .output) (t .bytes))
 
-  -- with another history and another output, within their ranges, it is sound
-  pub judged : (lent : Memory) → TakesIn r lent
-      → sound p (registersHolding (length (lent .history)) 0 0 r) (record { cells = m .cells; history = lent .history; output = lent .output }) ≡ true
-  judged lent takes =
-      facts-sound p _ _
-      (record {
-        table = s .table;
-        some = s .some;
-        few = s .few;
-        short = takes .history;
-        bits = s .bits;
-        tags = s .tags;
-        history = refl;
-        sp = s .sp;
-        fbr = s .fbr;
-        pc = s .pc;
-        halt = s .halt;
-        used = zero-le;
-        kept = zero-le;
-        none = λ q. refl;
-        shown = takes .output;
-        written = takes .room;
-        cells = s .cells;
-      })
-
   -- ---- loaded again
   module _ (image : List ℕ) (e : bitsOf image ≡ bits) (lent : Memory) (takes : TakesIn r lent) where
     -- the registers that it leaves
@@ -193,7 +168,8 @@ module _ (p : Program) (r : Registers) (m : Memory) (s : Sound p r m) (t : Typed
     is-judged =
         ap₂ (λ (q : Registers) (l : List ℕ). sound p q (record { cells = cellsIn (q .n) l; history = lent .history; output = lent .output })) again-is e
         ∙ ap (λ (c : Cells). sound p again (record { cells = c; history = lent .history; output = lent .output })) cells-back
-        ∙ judged lent takes
+        ∙ sound-beside p r m s (length (lent .history)) 0 0 (lent .history) (lent .output)
+        (record { long = refl; short = takes .history; used = zero-le; kept = zero-le; none = λ q. refl; shown = takes .output; written = takes .room })
 
     is-padded : isPadded image p lent ≡ true
     is-padded =

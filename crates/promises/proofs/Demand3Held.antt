@@ -28,13 +28,13 @@ use Rattle.rules.specs.declared.Step.the-variants.{Next}
 use Rattle.rules.specs.declared.Forgot.the-variants.{Forgotten}
 use Rattle.rules.proofs.Fair.{Sound, Fair}
 use Rattle.rules.proofs.FairEffects.{sound-facts}
-use Rattle.rules.proofs.Sound.{facts-sound, length-record}
+use Rattle.rules.proofs.Sound.{length-record}
 use Rattle.rules.proofs.Inverse.{inverse}
 use Rattle.rules.proofs.Room.{judged-others}
 use Rattle.rules.proofs.Records.{AllFormed, fewer-than-places, places-split, more-places, fewer-places, CutTo, cut-places}
 use Rattle.promises.specs.Unbounded.{Unbounded, moves, decided}
 use Rattle.promises.specs.Series.{State, plain}
-use Rattle.promises.proofs.Demand3Good.{Good, committed, back-empty}
+use Rattle.promises.proofs.Demand3Good.{Good, committed, back-empty, sound-beside}
 use Rattle.promises.proofs.Demand3Run.{made-fair}
 
 -- the registers, the cells and the output of x, with h places, of which the first hold these records, and the others zeros
@@ -70,27 +70,17 @@ module _ (p : Program) (h : ℕ) (short : h ≤ maxHistory) where
       let s : Sound p (plain x .registers) (plain x .memory) = sound-facts p (plain x .registers) (plain x .memory) (g .sound) in
       record {
         sound =
-            facts-sound p (held h ls x .registers) (held h ls x .memory)
+            sound-beside p (plain x .registers) (plain x .memory) s h (length (placesOf ls)) (length ls) (held h ls x .memory .history) (x .output)
             (record {
-              table = s .table;
-              some = s .some;
-              few = s .few;
-              short = short;
-              bits = s .bits;
-              tags = s .tags;
-              history =
+              long =
                   length-append (placesOf ls) (replicate (h - length (placesOf ls)) 0)
                   ∙ ap (λ (k : ℕ). length (placesOf ls) + k) (length-replicate (h - length (placesOf ls)) 0) ∙ omega arith;
-              sp = s .sp;
-              fbr = s .fbr;
-              pc = s .pc;
-              halt = s .halt;
+              short = short;
               used = fits;
               kept = fewer-than-places (x .registers .n) (p .count) ls f;
               none = no-places ls;
               shown = s .shown;
               written = s .written;
-              cells = s .cells;
             });
         narrow = g .narrow;
         blank =

@@ -24,10 +24,8 @@ use Rattle.rules.proofs.Bits.{Bits, bits-drop, bits-bytes, part-most, bytes-len
 use Rattle.rules.proofs.SavedState.{isLent, isSound, load-done, Accepted, load-accepted}
 use Rattle.rules.proofs.Fair.{Sound}
 use Rattle.rules.proofs.FairEffects.{sound-facts}
-use Rattle.rules.proofs.Sound.{facts-sound}
-use Rattle.promises.specs.Unbounded.{Unbounded}
 use Rattle.promises.specs.Series.{State, plain, resumed, SameSizes, fresh}
-use Rattle.promises.proofs.Demand3Good.{Good}
+use Rattle.promises.proofs.Demand3Good.{Good, sound-beside}
 use Rattle.promises.proofs.Demand3Held.{held, Begins}
 
 -- ---- what an image holds
@@ -65,28 +63,17 @@ module _ (image : List ℕ) (p : Program) (m : Memory) (a : Accepted image p m) 
   good-loaded : Good p (plain (fresh (resumed (loaded r bits m))))
   good-loaded =
       let s = judged-sound in
-      let x : Unbounded = fresh (resumed (loaded r bits m)) in
       record {
         sound =
-            facts-sound p (plain x .registers) (plain x .memory)
+            sound-beside p r (record { cells = cellsIn (r .n) bits; history = m .history; output = m .output }) s 0 0 0 [] (memoryIn r bits m .output)
             (record {
-              table = s .table;
-              some = s .some;
-              few = s .few;
+              long = refl;
               short = zero-le;
-              bits = s .bits;
-              tags = s .tags;
-              history = refl;
-              sp = s .sp;
-              fbr = s .fbr;
-              pc = s .pc;
-              halt = s .halt;
               used = zero-le;
               kept = zero-le;
               none = λ q. refl;
               shown = omega (arith, output-long, s .shown);
               written = omega (arith, output-long, s .written);
-              cells = s .cells;
             });
         narrow = column-most 1 (r .n) 32 (drop headWidth bits) (bits-drop headWidth bits (bits-bytes image)) refl;
         blank =
@@ -127,7 +114,7 @@ load-begins image p m m′ going going′ same =
 
 -- ---- what is answered and left hangs on the image, the program and the sizes of the lent memory alone
 
-pub sound-sized : (p : Program) (r : Registers) (c : Cells) (h h′ o o′ : List ℕ) → length h ≡ length h′ → length o ≡ length o′
+sound-sized : (p : Program) (r : Registers) (c : Cells) (h h′ o o′ : List ℕ) → length h ≡ length h′ → length o ≡ length o′
     → sound p r (record { cells = c; history = h; output = o }) ≡ sound p r (record { cells = c; history = h′; output = o′ })
 unfolding sound
 sound-sized p r c h h′ o o′ e f =

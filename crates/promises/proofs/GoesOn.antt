@@ -1,6 +1,6 @@
 -- Request k: a session that is saved, and loaded again under the same program beside an output of the same length, goes on as the first does until one of them has no
 -- room in its history. Assumes nothing.
-use Prim.Native.Nat.{ℕ, zero, suc, _-_, _^_, _<_}
+use Prim.Native.Nat.{ℕ, zero, suc, _-_, _^_, _<_, zero-le}
 use mathlib.Core.Path.{_≡_, refl, sym, ap, _∙_, subst}
 use mathlib.Core.Bool.{Bool, true}
 use mathlib.Core.List.{List, _++_}
@@ -30,12 +30,11 @@ use Rattle.promises.specs.Agrees.{Agrees}
 use Rattle.promises.specs.Carried.{Typed, TakesIn, toldImage, carriedTo, Unwritten, RoomAfter, SameShown, GoesOn}
 use Rattle.promises.proofs.Runs.{steps-end}
 use Rattle.promises.proofs.Agrees.{agrees}
-use Rattle.promises.proofs.Demand3Good.{Good}
+use Rattle.promises.proofs.Demand3Good.{Good, sound-beside}
 use Rattle.promises.proofs.Demand3Held.{Begins}
-use Rattle.promises.proofs.Demand3Load.{sound-sized}
 use Rattle.promises.proofs.Demand3Origin.{origin-begins}
 use Rattle.promises.proofs.Demand3Kept.{good-kept, kept-series}
-use Rattle.promises.proofs.Carried.{judged as carried-judged, carried-over}
+use Rattle.promises.proofs.Carried.{carried-over}
 
 -- the state after a step that gave this
 abbrev after : State → Stepped → State
@@ -58,7 +57,7 @@ module _ (p : Program) where
       go (Refuses x) q = h
 
   -- two machines in sound states that show the same
-  record Beside (s t : State) : Type 0 where
+  record Twins (s t : State) : Type 0 where
     one : SoundAt s
     other : SoundAt t
     same : SameShown s t
@@ -72,7 +71,7 @@ module _ (p : Program) where
     number : numberOfStep (stepOf p s .answer) ≡ numberOfStep (stepOf p t .answer)
     same : SameShown (after s (stepOf p s)) (after t (stepOf p t))
 
-  module _ (s t : State) (w : Beside s t) where
+  module _ (s t : State) (w : Twins s t) where
     -- both do what the machine without a history decides that shows what they show
     abbrev x : Unbounded
     x = fresh s
@@ -118,26 +117,26 @@ module _ (p : Program) where
             refl (w .same)
 
     -- and where they stand after them
-    next : Roomy (stepOf p s) → Roomy (stepOf p t) → Beside (after s (stepOf p s)) (after t (stepOf p t))
+    next : Roomy (stepOf p s) → Roomy (stepOf p t) → Twins (after s (stepOf p s)) (after t (stepOf p t))
     next rooms roomt =
         record { one = sound-after s (w .one); other = sound-after t (w .other); same = alongside rooms roomt .same }
 
   -- after k steps of both
-  besides : (s t : State) → Beside s t → (k : ℕ) → ((i : ℕ) → i < k → RoomAfter p s i × RoomAfter p t i) → Beside (stateOf (afresh p s k)) (stateOf (afresh p t k))
-  besides s t w zero room = w
-  besides s t w (suc k) room =
+  after-steps : (s t : State) → Twins s t → (k : ℕ) → ((i : ℕ) → i < k → RoomAfter p s i × RoomAfter p t i) → Twins (stateOf (afresh p s k)) (stateOf (afresh p t k))
+  after-steps s t w zero room = w
+  after-steps s t w (suc k) room =
       let rooms : RoomAfter p s k × RoomAfter p t k = room k (omega arith) in
       rw (steps-end p k (begin s), steps-end p k (begin t))
-      (next (stateOf (afresh p s k)) (stateOf (afresh p t k)) (besides s t w k (λ i h. room i (omega (arith, h)))) (rooms .0) (rooms .1))
+      (next (stateOf (afresh p s k)) (stateOf (afresh p t k)) (after-steps s t w k (λ i h. room i (omega (arith, h)))) (rooms .0) (rooms .1))
 
-  go-on : (s t : State) → Beside s t → GoesOn p s t
+  go-on : (s t : State) → Twins s t → GoesOn p s t
   go-on s t w =
       record {
-        shown = λ k room. besides s t w k room .same;
+        shown = λ k room. after-steps s t w k room .same;
         answers =
             λ k room.
             let rooms : RoomAfter p s k × RoomAfter p t k = room k (omega arith) in
-            alongside (stateOf (afresh p s k)) (stateOf (afresh p t k)) (besides s t w k (λ i h. room i (omega (arith, h)))) (rooms .0) (rooms .1) .number;
+            alongside (stateOf (afresh p s k)) (stateOf (afresh p t k)) (after-steps s t w k (λ i h. room i (omega (arith, h)))) (rooms .0) (rooms .1) .number;
       }
 
 -- ---- a state that is saved, and the one that its image is loaded as
@@ -152,9 +151,16 @@ goes-on p r m image lent h t unwritten long takes same =
     ap (λ (k : ℕ). take (r .written) (m .output) ++ replicate (k - r .written) 0) same ∙ ap (λ (l : List ℕ). take (r .written) (m .output) ++ l) (sym unwritten)
     ∙ take-append-drop (r .written) (m .output) in
     let judged : sound p (there .registers) (there .memory) ≡ true =
-    sound-sized p (there .registers) (m .cells) (there .memory .history) (lent .history) (there .memory .output) (lent .output)
-    (length-replicate (length (lent .history)) 0) (ap length whole ∙ sym same)
-    ∙ carried-judged p r m s t lent takes in
+    sound-beside p r m s (length (lent .history)) 0 0 (there .memory .history) (there .memory .output)
+    (record {
+      long = length-replicate (length (lent .history)) 0;
+      short = takes .history;
+      used = zero-le;
+      kept = zero-le;
+      none = λ q. refl;
+      shown = omega (arith, ap length whole, s .shown);
+      written = omega (arith, ap length whole, s .written);
+    }) in
     subst (GoesOn p here) (sym (carried-over p r m image lent h t long takes .keeps))
     (go-on p here there (record { one = h; other = judged; same = record { cells = refl; output = sym whole; registers = refl } }))
 

@@ -19,14 +19,14 @@ use Rattle.rules.specs.declared.Registers.{Registers}
 
 -- ---- a state made by hand, under a program of one instruction: two cells, CH 72 and FLOAT -4, one byte written of two, a step kept
 
-abbrev one : Program
-one = programOf "JUMP 0"
+abbrev jump : Program
+jump = programOf "JUMP 0"
 
 abbrev state : (sp : ℕ) → Registers
 state sp = record { n = 2; h = 1; pc = 1; sp = sp; fbr = 1; halt = 1; used = 1; kept = 1; written = 1 }
 
-abbrev kept : Memory
-kept = memory (72 ∷ 0xC0800000 ∷ []) (4 ∷ 1 ∷ []) (0x8000000000000000 ∷ []) (72 ∷ 5 ∷ [])
+abbrev given : Memory
+given = memory (72 ∷ 0xC0800000 ∷ []) (4 ∷ 1 ∷ []) (0x8000000000000000 ∷ []) (72 ∷ 5 ∷ [])
 
 -- its image: 0000000010 00000000001 0000000001 0000000001 1 000000001, then 100 and 72, then 001 and the FLOAT, then 01001000, and seven zeros
 abbrev carried : List ℕ
@@ -43,7 +43,7 @@ butTwo at byte byte′ = set (but at byte) (suc at) byte′
 -- ---- saves into an image of ones
 
 abbrev savedInto : (sp size : ℕ) → Saving
-savedInto sp size = save one (state sp) kept (replicate size 1)
+savedInto sp size = save jump (state sp) given (replicate size 1)
 
 abbrev saves : Saving → (number told : ℕ) → List ℕ → Bool
 saves o number told image =
@@ -51,7 +51,7 @@ saves o number told image =
 
 abbrev largest : Saving
 largest =
-    save one (record { n = 1000; h = 0; pc = 0; sp = 0; fbr = 0; halt = 0; used = 0; kept = 0; written = 256 })
+    save jump (record { n = 1000; h = 0; pc = 0; sp = 0; fbr = 0; halt = 0; used = 0; kept = 0; written = 256 })
     (memory (replicate 1000 0) (replicate 1000 0) [] (replicate 256 0)) (replicate 4638 1)
 
 abbrev tells : Saving → ℕ → Bool
@@ -78,14 +78,14 @@ leaves o number registers m = eqb (numberOfLoad (o .answer .resumed)) number && 
 -- accepted with two history places and two bytes of output: PC, HALT and the used count; cells and output
 abbrev loads : List ℕ → (pc written : ℕ) → (bits tags output : List ℕ) → Bool
 loads image pc written bits tags output =
-    leaves (load image one (lent 2 2 2 2)) 0 (2 ∷ 2 ∷ pc ∷ 1 ∷ 1 ∷ 1 ∷ 0 ∷ 0 ∷ written ∷ []) (memory bits tags (0 ∷ 0 ∷ []) output)
+    leaves (load image jump (lent 2 2 2 2)) 0 (2 ∷ 2 ∷ pc ∷ 1 ∷ 1 ∷ 1 ∷ 0 ∷ 0 ∷ written ∷ []) (memory bits tags (0 ∷ 0 ∷ []) output)
 
 -- "A refused load does as a refused reset."
 abbrev refusesInto : Memory → Program → List ℕ → (number : ℕ) → Bool
 refusesInto m p image number = leaves (load image p m) number (replicate 9 0) m
 
 abbrev refuses : List ℕ → (number : ℕ) → Bool
-refuses image number = refusesInto (lent 2 2 2 2) one image number
+refuses image number = refusesInto (lent 2 2 2 2) jump image number
 
 -- ---- sessions: 16 cells, six history places and two bytes of output, so many steps; then carried to a machine of that many history places
 
@@ -139,17 +139,17 @@ carryings =
     ∷ refuses (take 16 carried) 41
     ∷ refuses (but 6 0x50) 41
     ∷ refuses (set (but 0 0xFF) 1 0xC8) 41
-    ∷ refusesInto (lent 3 2 2 2) one (take 16 carried) 41
+    ∷ refusesInto (lent 3 2 2 2) jump (take 16 carried) 41
     ∷ refuses (take 16 (but 3 0x04)) 41
     -- "67 N not that of the lent cells and tags, or a lent history or output outside its range"; and before 10 and 45
-    ∷ refusesInto (lent 1 2 2 2) one carried 67
-    ∷ refusesInto (lent 3 3 2 2) one carried 67
-    ∷ refusesInto (lent 2 1 2 2) one carried 67
-    ∷ refusesInto (lent 2 2 8193 2) one carried 67
-    ∷ refusesInto (lent 2 2 2 257) one carried 67
-    ∷ refusesInto (lent 2 3 2 2) one (but 3 0x04) 67
+    ∷ refusesInto (lent 1 2 2 2) jump carried 67
+    ∷ refusesInto (lent 3 3 2 2) jump carried 67
+    ∷ refusesInto (lent 2 1 2 2) jump carried 67
+    ∷ refusesInto (lent 2 2 8193 2) jump carried 67
+    ∷ refusesInto (lent 2 2 2 257) jump carried 67
+    ∷ refusesInto (lent 2 3 2 2) jump (but 3 0x04) 67
     ∷ refusesInto (lent 2 3 2 2) (program [] 0) carried 67
-    ∷ refusesInto (lent 2 3 2 2) one (carried ++ (0 ∷ [])) 67
+    ∷ refusesInto (lent 2 3 2 2) jump (carried ++ (0 ∷ [])) 67
     -- "10 for the ranges of step": SP, FBR, PC, a tag, a PA, a CH, N and the table
     ∷ refuses (but 3 0x04) 10
     ∷ refuses (but 4 0x01) 10
@@ -158,11 +158,11 @@ carryings =
     ∷ refuses (but 6 0x2C) 10
     ∷ refuses (set (butTwo 9 0x00 0x08) 6 0x2C) 10
     ∷ refuses (butTwo 9 0x02 0x00) 10
-    ∷ refusesInto (lent 0 0 2 2) one (replicate 7 0) 10
+    ∷ refusesInto (lent 0 0 2 2) jump (replicate 7 0) 10
     ∷ refusesInto (lent 2 2 2 2) (program [] 0) carried 10
     -- "an output count above the lent output among them"; and before 45
-    ∷ refusesInto (lent 2 2 2 0) one carried 10
-    ∷ refusesInto (lent 2 2 2 1) one (but 6 0x50 ++ (0 ∷ [])) 10
+    ∷ refusesInto (lent 2 2 2 0) jump carried 10
+    ∷ refusesInto (lent 2 2 2 1) jump (but 6 0x50 ++ (0 ∷ [])) 10
     ∷ refuses (but 3 0x04 ++ (0 ∷ [])) 10
     ∷ refuses (set (but 3 0x04) 16 0x01) 10
     -- "45 padding or left-over bytes": the first and the last bit of the padding, and a byte too many; "length told", and no more is loaded again
@@ -171,10 +171,10 @@ carryings =
     ∷ refuses (carried ++ (0 ∷ [])) 45
     ∷ refuses (carried ++ replicate 4621 0) 45
     -- a range's end is within it: no history, no output, and the largest of both
-    ∷ leaves (load (set (but 6 0x10) 15 0x00) one (lent 2 2 0 0)) 45 (replicate 9 0) (lent 2 2 0 0)
-    ∷ leaves (load (take 16 (set (but 6 0x10) 15 0x00)) one (lent 2 2 0 0)) 0 (2 ∷ 0 ∷ 1 ∷ 1 ∷ 1 ∷ 1 ∷ 0 ∷ 0 ∷ 0 ∷ [])
+    ∷ leaves (load (set (but 6 0x10) 15 0x00) jump (lent 2 2 0 0)) 45 (replicate 9 0) (lent 2 2 0 0)
+    ∷ leaves (load (take 16 (set (but 6 0x10) 15 0x00)) jump (lent 2 2 0 0)) 0 (2 ∷ 0 ∷ 1 ∷ 1 ∷ 1 ∷ 1 ∷ 0 ∷ 0 ∷ 0 ∷ [])
     (memory (72 ∷ 0xC0800000 ∷ []) (4 ∷ 1 ∷ []) [] [])
-    ∷ leaves (load carried one (lent 2 2 8192 256)) 0 (2 ∷ 8192 ∷ 1 ∷ 1 ∷ 1 ∷ 1 ∷ 0 ∷ 0 ∷ 1 ∷ [])
+    ∷ leaves (load carried jump (lent 2 2 8192 256)) 0 (2 ∷ 8192 ∷ 1 ∷ 1 ∷ 1 ∷ 1 ∷ 0 ∷ 0 ∷ 1 ∷ [])
     (memory (72 ∷ 0xC0800000 ∷ []) (4 ∷ 1 ∷ []) (replicate 8192 0) (72 ∷ replicate 255 0))
     -- "takes any sound table": a longer program; a shorter one, in which PC is outside
     ∷ leaves (load carried (programOf "ADD ADD") (lent 2 2 0 1)) 0 (2 ∷ 0 ∷ 1 ∷ 1 ∷ 1 ∷ 1 ∷ 0 ∷ 0 ∷ 1 ∷ [])
