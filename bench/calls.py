@@ -3,7 +3,7 @@
 A Script collects the lines and, for each line that makes a call, the answer line that the driver must print.
 """
 
-from collections import Counter
+from collections import Counter, defaultdict
 from dataclasses import replace
 from itertools import groupby
 
@@ -18,6 +18,7 @@ MARK = 0xA5  # the byte that lent memory holds before a call
 PLACES = 1024
 TEXT_BYTES = 20480
 IMAGE_BYTES = 4866
+STATE_BYTES = 4638
 ASSEMBLE_TOLD = 4  # values that assemble tells: length, place, line, column
 # The calls that write an output: its length, and that of told.
 WRITERS = {
@@ -25,6 +26,7 @@ WRITERS = {
     "unpack": (PLACES, 1),
     "list": (TEXT_BYTES, 1),
     "pack": (IMAGE_BYTES, 1),
+    "save": (STATE_BYTES, 1),
     "plain_unpack": (PLACES, 1),
     "plain_pack": (IMAGE_BYTES, 1),
 }
@@ -43,6 +45,18 @@ def list_word(values):
         count = len(list(group))
         items.append(f"{value}*{count}" if count > 1 else str(value))
     return ",".join(items) or "-"
+
+
+class SaidList:
+    """A list that is said again and again: its word is made anew only where it is another than before."""
+
+    def __init__(self):
+        self.values, self.said = None, None
+
+    def word(self, values):
+        if self.values != values:
+            self.values, self.said = values[:], list_word(values)
+        return self.said
 
 
 def bytes_word(data):
@@ -71,6 +85,7 @@ def refused_operand(source, place, name):
 class Script:
     def __init__(self):
         self.lines = []  # (line, the answer or None)
+        self.table = SaidList()
         self.numbers = Counter()  # of each call's answers
         self.calls = Counter()
         self.fault_lines = Counter()  # (number, line) of assemble; 2 stands for every later line
@@ -105,6 +120,11 @@ class Script:
         self.damaged_lists = Counter()  # (what was damaged, number) of each list that was right before
         self.depth_tolds = Counter()  # (told's length, number of the list alone) of each depth list with another told
         self.listed_calls = Counter()  # (word, number) of each call on a machine whose program has a list
+        self.saves = Counter()  # (what is tried, .., number, length of the image) of each save
+        self.loads = Counter()  # (what is tried, .., number) of each load
+        self.carried = Counter()  # (whether there are histories, who ended first, number) of each session carried on
+        self.loaded_calls = Counter()  # (whether there is a history, word, number) of each call in a series from a load
+        self.fresh_loads = Counter()  # (whether there is a history, any taken back, any forgotten) of each such series
         self.wrong_tolds = Counter()  # (word, told's length, output's length, number of the input alone) of writers
         self.register_lengths = Counter()  # (line, number with nine, length, number) of each with another length
         self.resets = Counter()  # (length of the registers, cells, tags, history places, output, number) of each reset
@@ -165,7 +185,7 @@ class Script:
     # ---- a table to bytes
 
     def program(self, program):
-        self.say(f"program {program.length} {list_word(program.table)}")
+        self.say(f"program {program.length} {self.table.word(program.table)}")
 
     def list(self, program, size=TEXT_BYTES, told_length=1):
         return self.call_writing("list", sam.list_program, program, size, told_length)
@@ -215,6 +235,8 @@ class LentMachine:
         self.left_by = None  # word of the call that left the registers as they are; none, where they were made by hand
         self.registers_before = state.registers  # those before the next call
         self.told = []  # by the last call
+        self.image = b""  # as the last save left it
+        self.slices = defaultdict(SaidList)  # by their names
         script.program(program)
         self.lend()
 
@@ -223,13 +245,15 @@ class LentMachine:
         values = in_order(self.state.registers) + marked(self.registers_length, 8)
         return list_word(values[: self.registers_length])
 
+    def memory_words(self):
+        """(Name, word) of the registers and of each lent slice."""
+        slices = [(name, getattr(self.state, name)) for name in ("bits", "tags", "history", "output")]
+        return [("registers", self.registers_word()), *[(name, self.slices[name].word(of)) for name, of in slices]]
+
     def lend(self):
         """Gives the driver the state as it stands here."""
-        self.script.say(f"registers {self.registers_word()}")
-        self.script.say(f"bits {list_word(self.state.bits)}")
-        self.script.say(f"tags {list_word(self.state.tags)}")
-        self.script.say(f"history {list_word(self.state.history)}")
-        self.script.say(f"output {list_word(self.state.output)}")
+        for name, word in self.memory_words():
+            self.script.say(f"{name} {word}")
 
     def count_refusal(self, word, number):
         """At a 5, 6 or 12 the PC is that of the refused instruction."""
@@ -252,21 +276,11 @@ class LentMachine:
         if self.registers_length == REGISTERS:
             self.count_written(word)
             self.count_kept(word, number)
-        if word != "dwell":
+        if word not in ("dwell", "save"):
             self.last_word = word
         self.told = told
-        self.script.call(
-            line,
-            number,
-            [
-                ("told", list_word(told)),
-                ("registers", self.registers_word()),
-                ("bits", list_word(self.state.bits)),
-                ("tags", list_word(self.state.tags)),
-                ("history", list_word(self.state.history)),
-                ("output", list_word(self.state.output)),
-            ],
-        )
+        written = [("bytes", output_word(self.image))] if word == "save" else []
+        self.script.call(line, number, [("told", list_word(told)), *self.memory_words(), *written])
         return number
 
     def copy(self, registers):
@@ -277,12 +291,12 @@ class LentMachine:
     def made(self, line, call):
         """(number, *told) of call(state). Registers of another length are a broken state, 10 in 10's place, and nothing
         changes: "Run: 11, then 10. Reset: 11 before 10." Zeros stand for them, whose N is 10 wherever registers are
-        read; a reset reads none, but cannot be done."""
+        read; a reset and a load read none, but cannot be done, nor come to what stands behind 10."""
         if self.registers_length == REGISTERS:
             return call(self.state)
-        number, *told = call(self.copy(sam.Registers()))
-        number = number or 10
         with_nine, *_ = call(self.copy(self.state.registers))
+        number, *told = call(self.copy(sam.Registers()))
+        number = 10 if number in (0, 45) else number
         self.script.register_lengths[line, with_nine, self.registers_length, number] += 1
         return number, *told
 
@@ -351,3 +365,22 @@ class LentMachine:
         cell = state.cell(0) if state.bits and state.tags else None
         self.script.dwells[registers.halt, registers.sp > 0, cell, number, tenths] += 1
         self.script.dwells_after[self.last_word, number] += 1
+
+    def save(self, size=STATE_BYTES, told_length=1):
+        """Into an image that is kept as it is left; nothing else changes."""
+
+        def call(state):
+            self.image = bytearray([MARK] * size)
+            writer = lambda image: sam.save(self.program, state, image)
+            number, told = self.script.write("save", writer, self.image, told_length)
+            return number, *told
+
+        return self.machine_call(f"save {size} {told_length}", call)
+
+    def saved(self):
+        """The bytes of an accepted save that are loaded again: "only that much"."""
+        (length,) = self.told
+        return bytes(self.image[:length])
+
+    def load(self, image):
+        return self.machine_call(f"load {bytes_word(image)}", lambda state: [sam.load(self.program, state, image)])

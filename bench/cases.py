@@ -1,14 +1,15 @@
 """The families of cases that compare.py draws from: each adds calls to a script."""
 
-from dataclasses import dataclass
+from dataclasses import dataclass, replace
 from itertools import chain, product
 
 import depths
 import forgets
 import panel
 import sam
+import saves
 import teaching
-from calls import ASSEMBLE_TOLD, IMAGE_BYTES, PLACES, REGISTERS, TEXT_BYTES, WRITERS, LentMachine
+from calls import ASSEMBLE_TOLD, IMAGE_BYTES, PLACES, REGISTERS, STATE_BYTES, TEXT_BYTES, WRITERS, LentMachine
 from dwells import ADDRESS_CELLS, CHARACTER_CELLS, FLOAT_CELLS, INTEGER_CELLS, KINDS_OF_CELLS, PLAIN_CELLS, any_cell
 from machines import copied, halted, single, stacked
 from programs import CONVERSIONS, FLOAT_EDGES, FTOI_EDGES, INTEGER_EDGES, ITOF_EDGES, SUMS, TWO_FLOATS, TWO_INTEGERS
@@ -17,6 +18,7 @@ from sam.actions import CH, FLOAT, INT, MA, PA
 from sam.image import CODE_WIDTH, COUNT_WIDTH, OPERAND_WIDTH
 from sam.machine import CELL_LIMIT, HISTORY_LIMIT, OUTPUT_LIMIT, RUN_LIMIT, cell_place, cell_sound, step_place
 from sam.table import KINDS, LAST_CHARACTER, NAMES, NO_OPERAND, PATTERN
+from saves import image_of
 from sources import any_source, corner_sources, every_refusal
 
 WORD = 1 << 32
@@ -156,12 +158,6 @@ def there_and_back(chooser, script, program, pack="pack", unpack="unpack"):
         script.unpack(damaged_image(chooser, image), any_size(chooser, PLACES), any_told(chooser), unpack)
 
 
-def image_of(bits):
-    """These bits, as a string of 0 and 1, with zeros to a byte."""
-    bits += "0" * (-len(bits) % 8)
-    return int(bits, 2).to_bytes(len(bits) // 8, "big")
-
-
 def coded(code):
     """An image and a program of one instruction with this code, which may be too high, and zeros for its operand."""
     kind = KINDS[code] if code < len(KINDS) else NO_OPERAND
@@ -280,8 +276,8 @@ def fresh_state(chooser):
 
 @dataclass
 class Counts:
-    """Of a series since its reset: S minus B, the steps accepted less the step-backs accepted, and F, the steps that
-    were forgotten."""
+    """Of a series since its reset or its load: S minus B, the steps accepted less the step-backs accepted, and F, the
+    steps that were forgotten."""
 
     net_steps: int = 0
     forgotten: int = 0
@@ -298,6 +294,7 @@ def series_back(lent, counts):
     number = lent.back()
     assert number == (9 if counts.net_steps == counts.forgotten or lent.state.registers.h == 0 else 0), counts
     counts.net_steps -= number == 0
+    return number
 
 
 def series_forget(script, lent, k, counts):
@@ -307,6 +304,7 @@ def series_forget(script, lent, k, counts):
     assert number == (14 if k > kept else 0), (k, kept)
     script.series_forgets[has_history, forgets.what_is_forgotten(k, kept), number] += 1
     counts.forgotten += k if number == 0 else 0
+    return number
 
 
 def series_run(lent, limit, counts):
@@ -316,16 +314,26 @@ def series_run(lent, limit, counts):
     return number
 
 
-def series_call(chooser, script, lent, counts):
+def called(script, lent, counts, word, *words):
+    """The number of this call in a series."""
+    if word == "step":
+        return series_step(lent, counts)
+    if word == "back":
+        return series_back(lent, counts)
+    if word == "forget":
+        return series_forget(script, lent, *words, counts)
+    return series_run(lent, *words, counts)
+
+
+def any_series_call(chooser, lent):
     kind = chooser.randrange(14)
     if kind < 6:
-        series_step(lent, counts)
-    elif kind < 9:
-        series_back(lent, counts)
-    elif kind < 11:
-        series_forget(script, lent, forgets.any_number(chooser, lent.state.registers.kept), counts)
-    else:
-        series_run(lent, chooser.randrange(1, 8) if kind == 11 else chooser.choice([0, 20, 200, 1000]), counts)
+        return ("step",)
+    if kind < 9:
+        return ("back",)
+    if kind < 11:
+        return "forget", forgets.any_number(chooser, lent.state.registers.kept)
+    return "run", chooser.randrange(1, 8) if kind == 11 else chooser.choice([0, 20, 200, 1000])
 
 
 def check_kept(state, counts):
@@ -341,17 +349,24 @@ def check_unused(state):
 
 
 def check_output(state):
-    """Since the reset, what is not written is zero."""
+    """Since the reset or the load, what is not written is zero."""
     assert not any(state.output[state.registers.written :]), state.output
 
 
-def take_all_back(script, lent, forgotten=0):
+def check_series(state, counts):
+    """After each call of a series."""
+    check_kept(state, counts)
+    check_unused(state)
+    check_output(state)
+
+
+def take_all_back(script, lent, forgotten=0, written=0):
     """As many step-backs as the kept number says are accepted, and the next is refused; where no step was forgotten, no
-    output is left."""
+    output is left but what was written at the start."""
     kept, h = lent.state.registers.kept, lent.state.registers.h
     numbers = [lent.back() for _ in range(kept + 1)]
     assert numbers == [0] * kept + [9], numbers
-    assert h == 0 or forgotten > 0 or lent.state.registers.written == 0, lent.state.registers
+    assert h == 0 or forgotten > 0 or lent.state.registers.written == written, lent.state.registers
     script.taken_back[h > 0, min(kept, 2), forgotten > 0] += 1
 
 
@@ -364,10 +379,8 @@ def series_case(chooser, script):
     for _ in range(chooser.randrange(4, 30)):
         if chooser.randrange(6) == 0:
             lent.dwell()
-        series_call(chooser, script, lent, counts)
-        check_kept(lent.state, counts)
-        check_unused(lent.state)
-        check_output(lent.state)
+        called(script, lent, counts, *any_series_call(chooser, lent))
+        check_series(lent.state, counts)
     lent.dwell()
     if chooser.randrange(4) == 0 and lent.state.registers.used <= 100:
         take_all_back(script, lent, counts.forgotten)
@@ -519,7 +532,7 @@ END_LIMITS = [0, RUN_LIMIT, RUN_LIMIT + 1, DOUBLE_WORD - 1]  # the ends of a run
 
 
 def any_call(chooser, lent):
-    kind = chooser.randrange(7)
+    kind = chooser.randrange(8)
     if kind < 2:
         return lent.back()
     if kind < 4:
@@ -528,6 +541,8 @@ def any_call(chooser, lent):
         return lent.dwell(chooser.choice([1] * 8 + [0, 2]))
     if kind < 6:
         return lent.run(chooser.choice([1, 50, *END_LIMITS]), chooser.choice([1] * 8 + [0, 2]))
+    if kind < 7:
+        return lent.save(any_size(chooser, STATE_BYTES), chooser.choice([1] * 8 + [0, 2]))
     return lent.forget(forgets.any_number(chooser, lent.state.registers.kept))
 
 
@@ -553,6 +568,7 @@ CALLS = {
     "plain": lambda lent: lent.run(9, word="plain"),
     "dwell": LentMachine.dwell,
     "forget": lambda lent: lent.forget(lent.state.registers.kept),
+    "save": LentMachine.save,
     "reset": LentMachine.reset,
 }
 USED_SIZES = [(0, 0), (8, 0), (8, 1), (8, 4), (8192, 8000)]  # H and U, with room for a step and a run
@@ -872,6 +888,379 @@ def dwell_case(chooser, script):
         program = damaged_program(chooser, program)
     lent = LentMachine(script, program, state, chooser.choice([REGISTERS] * 20 + OTHER_LENGTHS))
     lent.dwell(chooser.choice([1] * 20 + [0, 2]))
+
+
+# ---- states saved and loaded
+
+
+def tried_save(script, key, program, state):
+    """The machine after a save, which is counted by what is tried."""
+    lent = LentMachine(script, program, state)
+    number = lent.save()
+    script.saves[(*key, number, *lent.told)] += 1
+    return lent
+
+
+def tried_load(script, key, program, image, sizes, registers_length=REGISTERS):
+    """The same of a load into memory of these sizes that holds what no machine does."""
+    lent = LentMachine(script, program, marked_state(*sizes), registers_length)
+    number = lent.load(image)
+    script.loads[(*key, number)] += 1
+    return number, lent
+
+
+def saved_again(lent, image):
+    """What was loaded is saved as it was."""
+    assert (lent.save(), lent.saved()) == (0, image), image.hex()
+
+
+def saved_and_loaded(script, key, program, saved, h=0, size=None):
+    """A machine in this state is saved, its image is as it was made by hand, and is loaded and saved again."""
+    lent = tried_save(script, key, program, saves.machine(saved, h, size))
+    image = saved.image()
+    assert lent.saved() == image, saved
+    n, size = len(saved.cells), len(lent.state.output)
+    number, spare = tried_load(script, key, program, image, (n, n, h, size))
+    assert number == 0, saved
+    saved_again(spare, image)
+
+
+def save_corners(script):
+    """Every way in which cells and bytes meet bytes, the greatest sizes, registers, cells and bytes at their ends."""
+    sizes = [*product(saves.SMALL_SIZES, saves.SMALL_COUNTS), (CELL_LIMIT - 1, 0), (CELL_LIMIT, 255), (CELL_LIMIT, 256)]
+    for n, count in sizes:
+        h = HISTORY_LIMIT if n == CELL_LIMIT else 0
+        saved_and_loaded(script, ("size", n, count), depths.stops(1), saves.patterned(n, count), h)
+    for n in (1, saves.N):
+        for program, saved in saves.ends(n):
+            key = ("ends", n, program.length, saved.pc, saved.sp, saved.fbr, saved.halt)
+            saved_and_loaded(script, key, program, saved)
+    program, saved = next(saves.ends(CELL_LIMIT))
+    saved_and_loaded(script, ("ends", CELL_LIMIT), program, replace(saved, sp=CELL_LIMIT - 1, fbr=CELL_LIMIT - 1))
+    for address, cell in product(range(saves.N), saves.ALLOWED_CELLS):
+        saved_and_loaded(script, ("cell", address, cell), saves.PROGRAM, saves.BASE.with_cell(address, *cell))
+    for first in range(0, 256, 16):
+        saved = replace(saves.BASE, shown=bytes(range(first, first + 16)))
+        saved_and_loaded(script, ("bytes", first), saves.PROGRAM, saved, size=16 + first)
+
+
+def unsaved_corners(script):
+    """What is not saved: histories of any room and use, and the output's rest; then outputs of another length and
+    tables of every fault, with states that are sound and that are broken, and every told."""
+    for h, used, kept in ALLOWED_KEPT:
+        state = saves.machine(saves.BASE, h, 9, used=used, kept=kept)
+        lent = tried_save(script, ("history", h, used, kept), saves.PROGRAM, state)
+        assert lent.saved() == saves.BASE.image()
+    tolds = [1, *other_tolds(1)]
+    states = [saves.machine(saves.BASE, 1), saves.machine(replace(saves.BASE, sp=saves.N), 1)]
+    for program, state in product([saves.PROGRAM, *saves.BROKEN_PROGRAMS], states):
+        for size, told_length in product([0, 1, STATE_BYTES - 1, STATE_BYTES, STATE_BYTES + 1, IMAGE_BYTES], tolds):
+            LentMachine(script, program, copied(state)).save(size, told_length)
+
+
+def image_bit_corners(script):
+    """Small images cut at every byte, and with every bit another, lent what was announced before and what is now."""
+    for name, saved in saves.SMALL.items():
+        image, n, count = saved.image(), len(saved.cells), len(saved.shown)
+        for size in range(len(image) + 1):
+            tried_load(script, ("cut", name, size), saves.PROGRAM, image[:size], (n, n, 2, count))
+        for bit in range(8 * len(image)):
+            changed = saves.flipped(image, bit)
+            number, lent = tried_load(script, ("bit", name, bit), saves.PROGRAM, changed, (n, n, 2, count))
+            if number == 0:
+                saved_again(lent, changed)
+            now, count_now = saves.announced_by(changed)
+            if (now, count_now) != (n, count):
+                sizes = (now, now, 0, min(count_now, OUTPUT_LIMIT))
+                tried_load(script, ("announced bit", name, bit), saves.PROGRAM, changed, sizes)
+
+
+def announced_corners(script):
+    """Every N and output count, the image whole, cut and longer; lent so many cells or one more."""
+    for n, count in product(saves.SIZES, saves.COUNTS):
+        for what, image in saves.around(saves.patterned(n, count).image()).items():
+            tried_load(script, ("announced", n, count, what), depths.stops(1), image, (n, n, 1, OUTPUT_LIMIT))
+            if what in ("whole", "cut"):
+                sizes = (n + 1, n + 1, 1, OUTPUT_LIMIT)
+                tried_load(script, ("one more cell", n, count, what), depths.stops(1), image, sizes)
+
+
+def value_corners(script):
+    """Cells, registers and output counts at their ends and beyond; under programs of every length; what is lent."""
+    for address, cell in product(range(saves.N), saves.BROKEN_CELLS):
+        image = saves.BASE.with_cell(address, *cell).image()
+        tried_load(script, ("cell", address, cell), saves.PROGRAM, image, (saves.N, saves.N, 2, 2))
+    for name, registers in (saves.ALLOWED_REGISTERS | saves.BROKEN_REGISTERS).items():
+        image = replace(saves.BASE, **registers).image()
+        tried_load(script, ("registers", name), saves.PROGRAM, image, (saves.N, saves.N, 2, 2))
+    for count, size in saves.ALLOWED_OUTPUTS + saves.BROKEN_OUTPUTS + saves.OUTER_OUTPUTS:
+        image = replace(saves.BASE, shown=panel.filled(count)).image()
+        tried_load(script, ("output", count, size), saves.PROGRAM, image, (saves.N, saves.N, 2, size))
+    for name, length in product(saves.CARRIED_STATES, saves.LENGTHS):
+        image = saves.carried_state(name).image()
+        tried_load(script, ("carried", name, length), depths.stops(length), image, (saves.N, saves.N, 2, 2))
+    for sizes in saves.ALLOWED_LENT + saves.REFUSED_LENT:
+        tried_load(script, ("lent", *sizes), saves.PROGRAM, saves.BASE.image(), sizes)
+
+
+def rest_corners(script):
+    """Every bit of every padding, and bytes left over."""
+    for n, bit in saves.paddings():
+        tried_load(script, ("padding", n, bit), depths.stops(1), saves.padded(n, bit), (n, n, 1, 0))
+    for n, (what, longer) in product(range(1, 9), saves.LEFT_OVER.items()):
+        image = longer(saves.patterned(n, 0).image())
+        tried_load(script, ("left over", n, what), depths.stops(1), image, (n, n, 1, 0))
+
+
+def meeting_load_corners(script):
+    """Every set of refusals that can meet: the first in the order is given."""
+    for met, program, image, sizes, length, expected in saves.meeting_loads(REGISTERS, OTHER_LENGTHS[:2] + [8, 10]):
+        number, _ = tried_load(script, ("meeting", met), program, image, sizes, length)
+        assert number == expected, (met, number)
+    for program, sizes in product(judged_programs(), [(1, 1, 0, 0), (1, 1, HISTORY_LIMIT + 1, 0)]):
+        tried_load(script, ("table",), program, saves.SMALL["one cell"].image(), sizes)
+
+
+# Images that are given each number of a load, where one cell is lent.
+JUDGED_STATES = {
+    0: saves.SMALL["one cell"].image(),
+    41: saves.SMALL["one cell"].image()[:-1],
+    67: saves.BASE.image(),
+    10: replace(saves.SMALL["one cell"], sp=1).image(),
+    45: saves.SMALL["one cell"].image() + b"\0",
+}
+
+
+def lent_length_corners(script):
+    """Registers of every length, by loads of images that are given each number, and by saves, sound and broken, with an
+    image and a told of every length."""
+    lengths = [*OTHER_LENGTHS, REGISTERS]
+    for image, length in product(JUDGED_STATES.values(), lengths):
+        tried_load(script, ("length",), saves.PROGRAM, image, (1, 1, 1, 1), length)
+    sizes = [STATE_BYTES - 1, STATE_BYTES]
+    for length, size, told_length, sp in product(lengths, sizes, [1, *other_tolds(1)], (0, saves.N)):
+        state = saves.machine(replace(saves.BASE, sp=sp))
+        LentMachine(script, saves.PROGRAM, state, length).save(size, told_length)
+
+
+def after_load_corners(script):
+    """Each call on what a load left, and a load on what each call left: of a machine that goes on, is halted, is at the
+    end or has little room."""
+    calls = {**CALLS, "load": lambda lent: lent.load(saves.BASE.image())}
+    for registers, h, word in product([{}, {"halt": 1}, {"pc": saves.LENGTH}, {"pc": 0}], (0, 1, 8), calls):
+        image = replace(saves.BASE, **registers).image()
+        lent = LentMachine(script, saves.PROGRAM, marked_state(saves.N, saves.N, h, 4))
+        assert lent.load(image) == 0
+        for each in (word, "back", "forget", word):
+            calls[each](lent)
+        assert lent.load(image) == 0
+
+
+# ---- sessions carried to another controller
+
+
+def visible(state):
+    """What "the saved session" is: all but the history, and what is kept of it."""
+    return state.bits[:], state.tags[:], bytes(state.output), replace(state.registers, h=0, used=0, kept=0)
+
+
+def go_on(lent, steps):
+    """(Number, what is visible) of each step until one is refused."""
+    answers = []
+    while len(answers) < steps and (not answers or answers[-1][0] == 0):
+        answers.append((lent.step(), visible(lent.state)))
+    return answers
+
+
+def first_apart(answers, others):
+    """(Steps before it, who was refused there, number) of the first answer that is another: "until one is 8"."""
+    for steps, ((one, _), (other, _)) in enumerate(zip(answers, others)):
+        if one != other:
+            assert 8 in (one, other), (steps, one, other)
+            return steps, "original" if one == 8 else "spare", 8
+    return len(answers), "both", answers[-1][0]
+
+
+def carry(script, lent, h, steps):
+    """The session is saved, loaded into a machine with another history, and goes on there step by step as the original
+    does. The image."""
+    assert lent.save() == 0
+    image, expected, original_h = lent.saved(), visible(lent.state), lent.state.registers.h
+    n, size = lent.state.registers.n, len(lent.state.output)
+    answers = go_on(lent, steps)
+    spare = LentMachine(script, lent.program, marked_state(n, n, h, size))
+    assert (spare.load(image), visible(spare.state)) == (0, expected)
+    assert spare.state.registers.h == h and not any(spare.state.history)
+    saved_again(spare, image)
+    others = go_on(spare, steps)
+    common, who, number = first_apart(answers, others)
+    assert answers[:common] == others[:common]
+    script.carried[original_h > 0, h > 0, who, number] += 1
+    return image
+
+
+def room_of(program, image, n, size, steps):
+    """The history places that so many steps from a load take, or nothing where there cannot be as many."""
+    state = marked_state(n, n, HISTORY_LIMIT, size)
+    assert sam.load(program, state, image) == 0
+    number, _ = sam.run(program, state, steps)
+    return state.registers.used if number != 8 else None
+
+
+def check_fresh_load(script, lent, image, counts):
+    """Demand 3 from a load: all is as "a fresh load" and the steps that are left make it, in just the room they need;
+    the records are the newest of these."""
+    state, n, size = lent.state, lent.state.registers.n, len(lent.state.output)
+    room = room_of(lent.program, image, n, size, counts.net_steps)
+    fresh = LentMachine(script, lent.program, marked_state(n, n, room or 0, size))
+    assert fresh.load(image) == 0
+    fresh.run(counts.net_steps)
+    assert fresh.told == [counts.net_steps]
+    assert visible(fresh.state) == visible(state)
+    used = state.registers.used
+    if room is not None and state.registers.h > 0:
+        assert fresh.state.history[room - used :] == state.history[:used]
+
+
+def series_from_load(script, program, image, state, next_calls):
+    """A load into this memory, then calls, with S, B and F counted from there; and what is left taken back. The machine
+    before that."""
+    lent, counts, backs = LentMachine(script, program, state), Counts(), 0
+    assert lent.load(image) == 0
+    written, has_history = lent.state.registers.written, lent.state.registers.h > 0
+    check_series(lent.state, counts)
+    for word, *words in next_calls(lent):
+        number = called(script, lent, counts, word, *words)
+        script.loaded_calls[has_history, word, number] += 1
+        backs += word == "back" and number == 0
+        check_series(lent.state, counts)
+    left = copied(lent.state)
+    check_fresh_load(script, lent, image, counts)
+    script.fresh_loads[has_history, backs > 0, counts.forgotten > 0] += 1
+    if left.registers.used <= 100:
+        take_all_back(script, LentMachine(script, program, copied(left)), counts.forgotten, written)
+    return left
+
+
+def session_corners(script):
+    """Sessions that end in every way, saved after none to four steps, with every pair of histories; and the same calls
+    on each that was loaded."""
+    for (source, n, size), original_h, steps in product(saves.SESSIONS, saves.SESSION_ROOMS, saves.SAVED_AFTER):
+        program = depths.program_of(source)
+        for h in saves.SESSION_ROOMS:
+            lent = LentMachine(script, program, marked_state(n, n, original_h, size))
+            lent.reset()
+            lent.run(steps)
+            image = carry(script, lent, h, saves.CARRIED_STEPS)
+            if original_h == 0:
+                series_from_load(script, program, image, marked_state(n, n, h, size), lambda _: saves.LOADED_CALLS)
+
+
+def any_room(chooser):
+    """For a history; there may be none."""
+    return chooser.choice([0, chooser.randrange(1, 12), chooser.randrange(12, 200)])
+
+
+def session_case(chooser, script):
+    """A program after some calls, carried to a spare machine, a series there, and what is left of it carried on."""
+    lent, counts = LentMachine(script, made_program(chooser), fresh_state(chooser)), Counts()
+    lent.reset()
+    series_run(lent, chooser.choice([0, 3, 8, 15, 30, 200]), counts)
+    for _ in range(chooser.randrange(4)):
+        called(script, lent, counts, *any_series_call(chooser, lent))
+    image = carry(script, lent, any_room(chooser), chooser.randrange(1, 9))
+    n, size = lent.state.registers.n, len(lent.state.output)
+    sizes, count = (n, n, any_room(chooser), size), chooser.randrange(4, 16)
+    any_calls = lambda lent: (any_series_call(chooser, lent) for _ in range(count))
+    another = made_program(chooser)
+    number, _ = tried_load(script, ("another program",), another, image, sizes)
+    under = lent.program if number else chooser.choice([lent.program, another])
+    left = series_from_load(script, under, image, marked_state(*sizes), any_calls)
+    carry(script, LentMachine(script, under, left), any_room(chooser), chooser.randrange(1, 5))
+
+
+def any_image(chooser, program, n, size):
+    """Of a state made of fields near their ends, with any cells and bytes."""
+    tags = chooser.choice([(INT, FLOAT, MA), (INT, FLOAT, MA, PA, CH), range(8)])
+    cells = [(tag, any_bits(chooser, tag, n) if tag in TAGS else 0) for tag in chooser.choices(tags, k=n)]
+    shown = bytes(chooser.randrange(256) for _ in range(chooser.choice([0, size, size // 2, size + 1])))
+    pc = chooser.choice([0, program.length, program.length, chooser.randrange(program.length + 1), program.length + 1])
+    sp, fbr = (chooser.choice([0, n - 1, chooser.randrange(n), chooser.randrange(n), n]) for _ in range(2))
+    return saves.Saved(cells, shown, pc, sp, fbr, chooser.randrange(2)).image()
+
+
+def changed_image(chooser, image, what):
+    """An image damaged in this way."""
+    if what == "any bit":
+        return saves.flipped(image, chooser.randrange(8 * len(image)))
+    if what == "a bit of the header":
+        return saves.flipped(image, chooser.randrange(saves.HEADER_BITS))
+    if what == "the last bit":
+        return saves.flipped(image, 8 * len(image) - 1)
+    if what == "cut":
+        return image[: chooser.choice([len(image) - 1, chooser.randrange(len(image))])]
+    if what == "longer":
+        return image + bytes(chooser.choice([1, 1, 2, 4638]))
+    return image.ljust(STATE_BYTES, b"\0") if what == "all of a save" else image
+
+
+def any_lent_sizes(chooser, n, size):
+    """Cells, tags, history places and output: most often such as fit."""
+    by = chooser.choice([(0, 0)] * 30 + [(1, 1), (-1, -1), (0, 1), (1, 0)])
+    h = chooser.choice([any_room(chooser)] * 30 + [HISTORY_LIMIT, HISTORY_LIMIT + 1])
+    size = chooser.choice([size] * 12 + [OUTPUT_LIMIT] * 12 + [max(size - 1, 0), OUTPUT_LIMIT + 1])
+    return n + by[0], n + by[1], h, size
+
+
+def any_table(chooser, program):
+    """Most often this program's, sometimes another's, sometimes a broken one."""
+    kind = chooser.randrange(8)
+    return made_program(chooser) if kind == 0 else damaged_program(chooser, program) if kind == 1 else program
+
+
+CHANGES = ["nothing", "any bit", "a bit of the header", "the last bit", "cut", "longer", "all of a save"]
+
+
+def load_case(chooser, script):
+    """The image of a session or one of any fields, whole and damaged, under its program, another and a broken one, into
+    memory that fits and that does not; and calls on what was loaded."""
+    program = made_program(chooser)
+    state = worked_state(chooser, program)
+    n, size, written = state.registers.n, len(state.output), bytearray(STATE_BYTES)
+    _, length = sam.save(program, state, written)
+    for _ in range(3):
+        image = written[:length] if chooser.randrange(3) else any_image(chooser, program, n, size)
+        what = chooser.choice(CHANGES)
+        changed = changed_image(chooser, bytes(image), what)
+        sizes, length_lent = any_lent_sizes(chooser, n, size), chooser.choice([REGISTERS] * 30 + OTHER_LENGTHS)
+        number, lent = tried_load(script, ("change", what), any_table(chooser, program), changed, sizes, length_lent)
+        if number == 0:
+            any_call(chooser, lent)
+            any_call(chooser, lent)
+
+
+def broken_save_case(chooser, script):
+    """States and tables with a fault, or nearly so."""
+    for fault in chooser.sample([None, *BREAKS], 3):
+        program = made_program(chooser)
+        state = worked_state(chooser, program)
+        if fault is None:
+            program = damaged_program(chooser, program)
+        else:
+            fault(chooser, program, state)
+        lent = LentMachine(script, program, state, chooser.choice([REGISTERS] * 20 + OTHER_LENGTHS))
+        number = lent.save(any_size(chooser, STATE_BYTES), any_told(chooser))
+        script.saves["fault", fault, number] += 1
+
+
+def save_case(chooser, script):
+    chooser.choice([session_case, load_case, load_case, broken_save_case])(chooser, script)
+
+
+def saving_corners(script):
+    for corners in (save_corners, unsaved_corners, image_bit_corners, announced_corners, value_corners, rest_corners,
+                    meeting_load_corners, lent_length_corners, after_load_corners, session_corners):  # fmt: skip
+        corners(script)
 
 
 # ---- depth lists
@@ -1218,6 +1607,7 @@ CORNERS = {
     "broken": broken_corners,
     "forget": forget_corners,
     "dwell": dwell_corners,
+    "save": saving_corners,
     "depths": depth_corners,
     "instruction": instruction_corners,
     "plain": plain_corners,
@@ -1233,6 +1623,7 @@ FAMILIES = {
     "broken": (broken_case, 5),
     "forget": (forget_case, 3),
     "dwell": (dwell_case, 6),
+    "save": (save_case, 3),
     "depths": (depth_case, 3),
     "plain": (plain_case, 4),
 }

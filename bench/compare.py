@@ -11,8 +11,9 @@ a code at the end of the codes was never read, a dwell that request f speaks of 
 number that request g speaks of was never given to a call or its steps never all taken back, an output, a character, a
 record or a WRITECH that request h speaks of was never met, a forget that request i speaks of was never made or never
 refused or the room it gained never used, a depth list that request j speaks of was never accepted or never refused or a
-program with a list never played, or a told or registers of another length were never given to a call that would be done
-or refused besides.
+program with a list never played, a state that request k speaks of was never saved, never loaded or never refused or a
+session never carried on, or a told or registers of another length were never given to a call that would be done or
+refused besides.
 """
 
 import argparse
@@ -27,10 +28,11 @@ import depths
 import forgets
 import panel
 import sam
+import saves
 import teaching
-from calls import REGISTERS, Script
+from calls import REGISTERS, STATE_BYTES, Script
 from cases import ALLOWED_KEPT, ALLOWED_SIZES, BROKEN_KEPT, CALLS, CORNERS, FAMILIES, OTHER_LENGTHS, REFUSED_SIZES
-from cases import DOUBLE_WORD, other_tolds, wrong_tolds
+from cases import BREAKS, DOUBLE_WORD, JUDGED_STATES, break_record, made_record, other_tolds, wrong_tolds
 from decimals import ALL_MARKS, ILL_FORMED, TOO_LONG
 from dwells import KINDS_OF_CELLS, LONGEST, REFUSED_CELLS, SHORTEST, first_of
 from programs import CONVERSIONS, FTOI_ENDS, GREATEST, INFINITIES, INTEGER_TIES, LEAST, MINUS_ZERO, NANS, SUMS, ZEROS
@@ -40,7 +42,7 @@ from sam.machine import OUTPUT_LIMIT, RUN_LIMIT
 from sam.table import WORD
 from sources import any_source, every_refusal
 
-ALL_NUMBERS = [*range(0, 13), 14, *range(21, 32), 33, *range(41, 46), 50, *range(60, 67)]
+ALL_NUMBERS = [*range(0, 13), 14, *range(21, 32), 33, *range(41, 46), 50, *range(60, 68)]
 FAULTS = [*range(22, 31), 33]  # refusals of a source that have a line
 FLOAT_TESTS = [  # what request b changed
     *[("EQUAL", ((FLOAT, zero), (FLOAT, other)), 0) for zero, other in permutations(ZEROS)],
@@ -81,14 +83,17 @@ DWELLS_READ = [  # what request f added: cell 0 and its tenths, from the first F
     *[((tag, value % WORD), end) for tag, end, values in HELD for value in values],
 ]
 # The call before a dwell, and the number.
-DWELLS_AFTER = [("reset", 60), ("step", 60), ("back", 60), ("forget", 60), ("step", 0), ("run", 0), ("forget", 0)]
+DWELLS_AFTER = [
+    *[(word, 60) for word in ("reset", "step", "back", "forget", "load")],
+    *[(word, 0) for word in ("step", "run", "forget", "load")],
+]
 # What request g added: H, U and the kept number that a step-back of a machine made by hand leaves, refused and not.
 BROKEN_BY_BACK = [(8, 3, 0), (8, 2, 0), (8, 2, 3), (8192, 7999, 0)]
 ALLOWED_BY_BACK = [(8, 3, 1), (8, 3, 3), (8, 2, 1), (8, 2, 2), (8192, 7999, 7999)]
 # The numbers that the input of each writer is given where every length is right.
 INPUT_NUMBERS = {
     "assemble": [0, 21, *FAULTS],
-    **dict.fromkeys(["list", "pack", "plain_pack"], [0, 10]),
+    **dict.fromkeys(["list", "pack", "save", "plain_pack"], [0, 10]),
     **dict.fromkeys(["unpack", "plain_unpack"], [0, *range(41, 46)]),
 }
 # What request h added: tests of characters, with each other and with other tags of the same bits.
@@ -131,6 +136,7 @@ AFTER_FORGETS = {
     "plain": [0],
     "dwell": [0, 60],
     "forget": [0, 14],
+    "save": [0],
     "reset": [0],
 }
 # Sign of the places free after a forget less those that a step needs, where it met 8 before, and its number.
@@ -174,6 +180,82 @@ LISTED_CALLS = {
     "back": [0, 9],
     "forget": [0, 14],
 }
+# What request k added: the number that each bit of a small image leads to where it is another, and as much is lent as
+# before. N, PC, SP, FBR, HALT and the output count are at 0, 10, 21, 31, 41 and 42; cells follow at 51, 86, 121, ..
+FOUR_CELLS = [
+    *[(range(51, 86), 0)],  # INT 40
+    *[([87, 88], 10), (range(89, 114), 10), ([86, *range(114, 121)], 0)],  # CH 76: tags 6 and 5; above 127; else
+    *[([121, 123], 10), ([122, *range(124, 156)], 0)],  # MA -1: tag 6 and a PA
+    *[([156, *range(159, 189)], 10), ([157, 158, 189, 190], 0)],  # PA 3: tag 7; above the length; else
+]
+ANOTHER_BIT = {
+    "one cell": [  # N 1, all registers 0, no output; INT 40
+        *[(range(0, 9), 41), ([9], 67)],  # more cells; none
+        *[(range(10, 19), 10), ([19, 20, 41], 0)],  # PC 4 and above; 2 and 1, HALT 1
+        *[(range(21, 41), 10), (range(42, 51), 41)],  # SP and FBR not below 1; more output
+        *[(range(51, 86), 0), ([86, 87], 45)],  # any INT, a FLOAT, an MA and a CH 40; padding
+    ],
+    "four cells": [  # N 4, PC 1, SP 2, FBR 1, HALT 0, two bytes
+        *[([0, 1, 2, 3, 4, 5, 6, 8, 9], 41), ([7], 67)],  # more cells; none
+        *[(range(10, 19), 10), ([19, 20], 0)],  # PC 5 and above; 3 and 0
+        *[(range(21, 29), 10), ([29, 30], 0)],  # SP 6 and above; 0 and 3
+        *[(range(31, 39), 10), ([39, 40, 41], 0)],  # FBR 5 and above; 3 and 0, HALT 1
+        *[([*range(42, 49), 50], 41), ([49], 45)],  # more output; none
+        *FOUR_CELLS,
+        *[(range(191, 207), 0), ([207], 45)],  # bytes; padding
+    ],
+    "no padding": [  # N 7, PC 0, SP 6, FBR 0, HALT 1, three bytes
+        *[(range(0, 7), 41), ([7, 8, 9], 67)],  # more cells; 3, 5 and 6
+        *[(range(10, 19), 10), ([19, 20, 41], 0)],
+        *[([*range(21, 28), 30], 10), ([28, 29], 0)],  # SP 14 and above, 7; 2 and 4
+        *[(range(31, 38), 10), ([38, 39, 40], 0)],  # FBR 8 and above; 4, 2 and 1
+        *[(range(42, 49), 41), ([49, 50], 45)],  # more output; less
+        *FOUR_CELLS,
+        *[([191, 192], 10), (range(193, 226), 0)],  # FLOAT #7FC00000: tag 5 and a PA
+        *[([226], 10), (range(227, 261), 0)],  # INT -1: a CH
+        *[([262, 263, *range(264, 289)], 10), ([261, *range(289, 296)], 0)],  # CH 0: tags 6 and 5; above 127; else
+        *[(range(296, 320), 0)],  # bytes
+    ],
+}
+# A change to an image that was saved, or made of fields near their ends, and the numbers it led to.
+CHANGED_IMAGES = {
+    "nothing": [0, 10, 67],
+    "any bit": [0, 10, 41],
+    "a bit of the header": [0, 10, 41, 67],
+    "the last bit": [10, 45, 67],
+    "cut": [41],
+    "longer": [10, 45, 67],
+    "all of a save": [10, 45, 67],
+}
+# A call on what a load left, and its numbers.
+AFTER_LOADS = {
+    "step": [0, 1, 2, 3, 4, 5, 6, 7, 8],
+    "back": [9],
+    "run": [0, 2, 8],
+    "plain": [0, 2, 8],
+    "dwell": [0, 60],
+    "forget": [0],
+    "save": [0],
+    "load": [0],
+    "reset": [0],
+}
+SESSION_NUMBERS = [0, 1, 2, 3, 4, 5, 6, 7, 12]  # of the last step of a session that was carried on
+# Whether the first controller and the spare one have a history, who was refused first, and the number.
+CARRIED = [
+    *[(*histories, "both", number) for histories in product((False, True), repeat=2) for number in SESSION_NUMBERS],
+    *[(True, has_history, "original", 8) for has_history in (False, True)],
+    *[(has_history, True, "spare", 8) for has_history in (False, True)],
+    (True, True, "both", 8),
+]
+# Whether there is a history, a call in a series from a load, and its number.
+LOADED_CALLS = [
+    *product((False, True), ("step",), (0, 1, 2, 3, 4, 5, 6, 7, 12)),
+    *product((False, True), ("run",), (0, 2, 3, 4, 5, 6, 7, 12, 50)),
+    *[(True, "step", 8), (True, "run", 8), (True, "back", 0), (True, "back", 9), (False, "back", 9)],
+    *product((False, True), ("forget",), (0, 14)),
+]
+# Whether there is a history, and whether anything was taken back and forgotten in such a series.
+FRESH_LOADS = [(False, False, False), *[(True, *was) for was in product((False, True), repeat=2)]]
 CUT = 400  # characters of a line that a difference shows
 
 
@@ -447,12 +529,16 @@ def run_tests(word, length):
 def length_tests():
     """The same for every call."""
     for length in OTHER_LENGTHS:
-        for line, done in product(("reset", "step", "back", "forget 1", "dwell 1"), (0, 10)):
+        for line, done in product(("reset", "step", "back", "forget 1", "dwell 1", f"save {STATE_BYTES} 1"), (0, 10)):
             yield line, done, length, 10
         yield "forget 2", 14, length, 10
         yield "reset", 11, length, 11
         for told_length in other_tolds(1):
             yield f"dwell {told_length}", 31, length, 31
+            yield f"save {STATE_BYTES} {told_length}", 31, length, 31
+        yield f"save {STATE_BYTES - 1} 1", 31, length, 31
+        for number, image in JUDGED_STATES.items():  # after 41 and 67, before 45
+            yield f"load {image.hex()}", number, length, number if number in (41, 67) else 10
         for word in ("run", "plain"):
             yield from run_tests(word, length)
 
@@ -553,12 +639,87 @@ def depth_tests():
     yield from (("small", *answer) for answer in [(0, 0), *product((65, 66), (0, 1, 2))])
 
 
+def state_tests():
+    """(What is tried, .., length of the image) of what is saved and loaded again."""
+    for n, count in product(saves.SMALL_SIZES, saves.SMALL_COUNTS):
+        yield "size", n, count, (51 + 35 * n + 8 * count + 7) // 8
+    yield from [("size", 999, 0, 4377), ("size", 1000, 255, 4637), ("size", 1000, 256, 4638), ("ends", 1000, 4382)]
+    for (n, size), length, halt in product(((1, 11), (4, 24)), (0, 1, 3, 1023, 1024), (0, 1)):
+        yield from (("ends", n, length, pc, sp, fbr, halt, size) for pc in {0, length} for sp in {0, n - 1}
+                    for fbr in {0, n - 1})  # fmt: skip
+    for address, cell in product(range(saves.N), saves.ALLOWED_CELLS):
+        yield "cell", address, cell, 26
+    yield from (("bytes", first, 40) for first in range(0, 256, 16))
+
+
+def save_tests():
+    """(What is tried, .., number, length of the image): whatever the history is, and the records in it. Of a fault that
+    was drawn (none: of the table) the number alone."""
+    yield from ((*tried, 0, size) for *tried, size in state_tests())
+    yield from (("history", *kept, 0, 26) for kept in ALLOWED_KEPT)
+    for fault in (None, *BREAKS):
+        yield "fault", fault, 0 if fault in (break_record, made_record) else 10
+
+
+def announced_number(n, count, what):
+    """Lent so many cells, and 256 bytes of output."""
+    if what == "cut" or (what == "header" and (n, count) != (0, 0)):
+        return 41
+    if not 1 <= n <= 1000 or count > 256:
+        return 10
+    return 45 if what == "more" else 0
+
+
+def image_tests():
+    """An image cut at every byte, with every bit another, with every N and output count that it may announce, with
+    every bit of padding, and with more behind it."""
+    for name, saved in saves.SMALL.items():
+        size = len(saved.image())
+        yield from (("cut", name, cut, 41 if cut < size else 0) for cut in range(size + 1))
+        yield from (("bit", name, bit, number) for bits, number in ANOTHER_BIT[name] for bit in bits)
+    for n, count in product(saves.SIZES, saves.COUNTS):
+        for what in ("whole", "cut", "more", "header"):
+            yield "announced", n, count, what, announced_number(n, count, what)
+        yield "one more cell", n, count, "whole", 67
+        yield "one more cell", n, count, "cut", 41
+    yield from (("padding", *padding, 45) for padding in saves.paddings())
+    yield from (("left over", n, what, 45) for n, what in product(range(1, 9), saves.LEFT_OVER))
+
+
+def meeting_tests():
+    """(Refusals met, number) of every set of them; what ends early has nothing left over."""
+    for count in range(len(saves.ORDER) + 1):
+        for met in combinations(saves.ORDER, count):
+            if not {41, 45} <= set(met):
+                yield "meeting", met, met[0] if met else 0
+
+
+def load_tests():
+    """(What is tried, .., number) of a load."""
+    yield from ((*tried, 0) for *tried, _ in state_tests())
+    yield from image_tests()
+    yield from (("cell", address, cell, 10) for address, cell in product(range(saves.N), saves.BROKEN_CELLS))
+    for names, number in [(saves.ALLOWED_REGISTERS, 0), (saves.BROKEN_REGISTERS, 10)]:
+        yield from (("registers", name, number) for name in names)
+    for outputs, number in [(saves.ALLOWED_OUTPUTS, 0), (saves.BROKEN_OUTPUTS, 10), (saves.OUTER_OUTPUTS, 67)]:
+        yield from (("output", *output, number) for output in outputs)
+    for (name, (_, _, least)), length in product(saves.CARRIED_STATES.items(), saves.LENGTHS):
+        yield "carried", name, length, 0 if length >= least else 10
+    yield from (("lent", *sizes, 0) for sizes in saves.ALLOWED_LENT)
+    yield from (("lent", *sizes, 67) for sizes in saves.REFUSED_LENT)
+    yield from meeting_tests()
+    yield from (("table", number) for number in (0, 10, 67))
+    yield from (("another program", number) for number in (0, 10))
+    yield from (("change", what, number) for what, numbers in CHANGED_IMAGES.items() for number in numbers)
+
+
 def all_met(script):
     """Whether the cases led to every number, to every fault of a source in its first line and in a later one, to every
     test of FLOATs, sum and conversion by the proved step and by the direct run, to sums and conversions refused with
     and without a history, to every kind of decimal, to the last codes, to every dwell, to every kept number, to every
     output, character, record and WRITECH that request h speaks of, to every forget and its room, to every depth list
-    and every call with one, and to a told and registers of another length wherever they are refused."""
+    and every call with one, to every state saved and image loaded and every session carried on, and to a told and
+    registers of another length wherever they are refused."""
     lines = product(FAULTS, (1, 2))
     single_tests = [*FLOAT_TESTS, *sum_tests(), *CONVERSION_TESTS, *CHARACTER_TESTS]
     tests = [(word, *test) for word in ("step", "plain") for test in single_tests]
@@ -566,6 +727,7 @@ def all_met(script):
     steps = [(word, *of, h) for word, of, h in product(("step", "run", "plain"), refused, (False, True))]
     codes = [(word, *code) for word, code in product(("unpack", "plain_unpack"), LAST_CODES)]
     after_forgets = [("forget", word, number) for word, numbers in AFTER_FORGETS.items() for number in numbers]
+    after_loads = [("load", word, number) for word, numbers in AFTER_LOADS.items() for number in numbers]
     room = [(word, *gained) for word, all_gained in ROOM_GAINED.items() for gained in all_gained]
     damaged = [(what, number) for what, numbers in DAMAGED.items() for number in numbers]
     listed_calls = [(word, number) for word, numbers in LISTED_CALLS.items() for number in numbers]
@@ -603,6 +765,12 @@ def all_met(script):
         all_in(script.damaged_lists, damaged, "depth lists (damage, number) never judged"),
         all_in(script.listed_calls, listed_calls, "calls (call, number) never made with a depth list"),
         all_in(script.depth_tolds, depth_tolds, "depth lists (told's length, number of the list) never refused"),
+        all_in(script.saves, save_tests(), "states (what is tried, .., number, length of the image) never saved"),
+        all_in(script.loads, load_tests(), "images (what is tried, .., number) never loaded"),
+        all_in(script.calls_after, after_loads, "calls (left by, call, number) never made on what a load left"),
+        all_in(script.carried, CARRIED, "sessions (histories, who was refused first, number) never carried on"),
+        all_in(script.loaded_calls, LOADED_CALLS, "calls (any history, call, number) never made from a load"),
+        all_in(script.fresh_loads, FRESH_LOADS, "series from a load (any history, back, forgotten) never made"),
         all_in(script.wrong_tolds, told_tests(), "writers (told's, output's length, number of input) never refused"),
         all_in(script.register_lengths, length_tests(), "calls (number with nine, length, number) never refused"),
         all_in(script.resets, reset_tests(), "resets (registers, cells, tags, history, output, number) never made"),

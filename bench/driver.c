@@ -164,7 +164,8 @@ static void call_writing(writing_call *call) {
     print_end();
 }
 
-static void print_machine(uint32_t number) {
+/* Without the line's end. */
+static void print_memory(uint32_t number) {
     printf("%" PRIu32, number);
     print_list("told", &told);
     print_list("registers", &registers);
@@ -177,6 +178,10 @@ static void print_machine(uint32_t number) {
     check_guards(&tags, "tags");
     check_guards(&history, "history");
     check_guards(&output, "output");
+}
+
+static void print_machine(uint32_t number) {
+    print_memory(number);
     print_end();
 }
 
@@ -207,6 +212,30 @@ static void call_dwell(void) {
     print_machine(sam_dwell(data(&table), table.count, length, data(&registers), registers.count, data(&bits),
                             bits.count, data(&tags), tags.count, data(&history), history.count, data(&output),
                             output.count, data(&told), told.count));
+}
+
+static void call_save(void) {
+    lend(&written, read_number());
+    lend(&told, read_number());
+    print_memory(sam_save(data(&table), table.count, length, data(&registers), registers.count, data(&bits), bits.count,
+                          data(&tags), tags.count, data(&history), history.count, data(&output), output.count,
+                          data(&written), written.count, data(&told), told.count));
+    print_bytes("bytes", &written);
+    check_guards(&written, "written");
+    print_end();
+}
+
+/* The image is read alone, and must be as it was. */
+static void call_load(void) {
+    read_bytes(&source);
+    lend(&written, source.count);
+    memcpy(data(&written), data(&source), source.count);
+    lend(&told, 0);
+    print_machine(sam_load(data(&source), source.count, data(&table), table.count, length, data(&registers),
+                           registers.count, data(&bits), bits.count, data(&tags), tags.count, data(&history),
+                           history.count, data(&output), output.count));
+    if (memcmp(data(&written), data(&source), source.count) != 0) die("a call changed", "the image that it read");
+    check_guards(&source, "image");
 }
 
 static void call_depths(void) {
@@ -240,6 +269,8 @@ static void obey(const char *word) {
     else if (strcmp(word, "run") == 0) call_run(sam_run);
     else if (strcmp(word, "dwell") == 0) call_dwell();
     else if (strcmp(word, "depths") == 0) call_depths();
+    else if (strcmp(word, "save") == 0) call_save();
+    else if (strcmp(word, "load") == 0) call_load();
     else if (strcmp(word, "plain") == 0) call_run(plain_run);
     else if (strcmp(word, "plain_pack") == 0) call_writing(plain_pack);
     else if (strcmp(word, "plain_unpack") == 0) call_reading(plain_unpack);

@@ -23,8 +23,8 @@ static void die(const char *why) {
 enum { PAIRS = SAM_TABLE_PLACES / 16, STEPS = 1000, FORGOTTEN = 3 };
 
 static char source[SAM_SOURCE_LIMIT];
-static size_t source_len, image_len;
-static uint8_t text[SAM_TEXT_BYTES], image[SAM_IMAGE_BYTES];
+static size_t source_len, image_len, state_len;
+static uint8_t text[SAM_TEXT_BYTES], image[SAM_IMAGE_BYTES], state[SAM_STATE_BYTES];
 static uint64_t table[SAM_TABLE_PLACES], length, told[SAM_ASSEMBLE_TOLD];
 static uint64_t registers[SAM_REGISTERS], history[SAM_HISTORY_LIMIT];
 static uint32_t bits[SAM_CELL_LIMIT];
@@ -71,6 +71,17 @@ static void run(void) {
 static void dwell(void) {
     number = sam_dwell(table, SAM_TABLE_PLACES, length, registers, SAM_REGISTERS, bits, SAM_CELL_LIMIT, tags,
                        SAM_CELL_LIMIT, history, SAM_HISTORY_LIMIT, output, SAM_OUTPUT_LIMIT, told, 1);
+}
+
+static void save(void) {
+    number = sam_save(table, SAM_TABLE_PLACES, length, registers, SAM_REGISTERS, bits, SAM_CELL_LIMIT, tags,
+                      SAM_CELL_LIMIT, history, SAM_HISTORY_LIMIT, output, SAM_OUTPUT_LIMIT, state, SAM_STATE_BYTES,
+                      told, 1);
+}
+
+static void load(void) {
+    number = sam_load(state, state_len, table, SAM_TABLE_PLACES, length, registers, SAM_REGISTERS, bits,
+                      SAM_CELL_LIMIT, tags, SAM_CELL_LIMIT, history, SAM_HISTORY_LIMIT, output, SAM_OUTPUT_LIMIT);
 }
 
 static void judge(void) {
@@ -128,6 +139,12 @@ static void end_at_last(void) { table[LAST] = place_of(JUMP, SAM_TABLE_PLACES); 
 
 static void break_last(void) { table[LAST] = place_of(CODES, 0); }
 
+static void cut_state(void) { state_len--; }
+
+static void lengthen_state(void) { state_len++; }
+
+static void announce_fewer_cells(void) { state[0]--; }
+
 /* By how much each code moves SP. */
 static const signed char MOVES[CODES] = {
     0, 1, 1, 1, 0, -1, -1, -1, -1, -1, -1, -1, -1, -1, -1, -1, -1, -1, -1, 0, -1, -1, -1, -1, -1, 0, -1,
@@ -158,10 +175,10 @@ struct row {
     const struct cell *cell; /* where the machine is halted, or none */
     size_t most;             /* bytes, by sam.h */
     uint32_t empty, full;    /* the numbers that the call gives */
-    void (*change)(void);    /* of the long program and its list, or none */
+    void (*change)(void);    /* of the long program, its list and its machine's state as it was saved, or none */
 };
 
-/* A program, its image, and a machine as the row has it. */
+/* A program, its image, a machine as the row has it, and its state saved. */
 static void prepare(bool is_full, const struct row *row) {
     source_len = 0;
     if (is_full) write_full_source();
@@ -173,6 +190,8 @@ static void prepare(bool is_full, const struct row *row) {
     reset();
     for (int i = 0; i < row->steps; i++) step();
     if (row->cell != NULL) halt_at(row->cell);
+    save();
+    state_len = told[0];
     list_depths();
     if (is_full && row->change != NULL) row->change();
 }
@@ -251,6 +270,13 @@ static const struct row ROWS[] = {
     {"depths 66", judge, 0, NULL, SAM_DEPTHS_STACK, 66, 66, end_at_last},
     {"depths 65", judge, 0, NULL, SAM_DEPTHS_STACK, 66, 65, forbid_last},
     {"depths 10", judge, 0, NULL, SAM_DEPTHS_STACK, 66, 10, break_last},
+    {"save", save, TO_WRITECH + 1, NULL, SAM_SAVE_STACK, 0, 0, NULL},
+    {"save 10", save, TO_WRITECH + 1, NULL, SAM_SAVE_STACK, 0, 10, break_last},
+    {"load", load, TO_WRITECH + 1, NULL, SAM_LOAD_STACK, 0, 0, NULL},
+    {"load 41", load, TO_WRITECH + 1, NULL, SAM_LOAD_STACK, 0, 41, cut_state},
+    {"load 67", load, TO_WRITECH + 1, NULL, SAM_LOAD_STACK, 0, 67, announce_fewer_cells},
+    {"load 10", load, TO_WRITECH + 1, NULL, SAM_LOAD_STACK, 0, 10, break_last},
+    {"load 45", load, TO_WRITECH + 1, NULL, SAM_LOAD_STACK, 0, 45, lengthen_state},
 };
 
 /* What request c forbids. */

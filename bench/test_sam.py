@@ -1,5 +1,5 @@
 #!/usr/bin/env python3
-"""Tests of the interpreter in sam/: the twelve P examples of document 01, its sentences, requests a, b and d to j, and
+"""Tests of the interpreter in sam/: the twelve P examples of document 01, its sentences, requests a, b and d to k, and
 the settled readings.
 
 Every expected value is read off the documents or worked out by hand; none is copied from an output.
@@ -3043,6 +3043,513 @@ class DepthList(unittest.TestCase):
         self.assertEqual(depth_list.read(""), [])
         for wrong in ("65535", "-1", "x", "1.0", "--", "0x1", "+1", "\u0663"):
             self.assertRaises(ValueError, depth_list.read, wrong)
+
+
+class SavedState(unittest.TestCase):
+    """Request k. Every image and every answer is worked out by hand from its sentences."""
+
+    # A machine of two cells, CH 65 and FLOAT 2.5, at PC 5, SP 1, FBR 1, HALT 1, with one byte written, H: "N 10 bits,
+    # PC 11, SP 10, FBR 10, HALT 1, output count 9, then each of the N cells as tag 3 and bits 32, then the written
+    # output bytes, zeros to a byte".
+    FIELDS = (
+        "0000000010 00000000101 0000000001 0000000001 1 000000001 "
+        "100 00000000000000000000000001000001 001 01000000001000000000000000000000 01001000 0000000"
+    )
+    IMAGE = bytes.fromhex("00 80 28 02 00 C0 30 00 00 01 04 A0 10 00 00 24 00")
+    REGISTERS = {"n": 2, "pc": 5, "sp": 1, "fbr": 1, "halt": 1, "written": 1}
+    CELLS = [(CH, 65), (FLOAT, 0x40200000)]
+    BEYOND = DOUBLE_WORD - 1  # in registers that are not looked at
+
+    def program(self, length=6):
+        return sam.Program([0] * PLACES, length)  # so many STOPs
+
+    def state(self, cells=(), h=0, output=b"H", **registers):
+        """That machine, or with other cells, memory and registers."""
+        tags, bits = map(list, zip(*(cells or self.CELLS)))
+        made = sam.Registers(**{**self.REGISTERS, "n": len(bits), "h": h, **registers})
+        return sam.State(bits, tags, [5] * h, bytearray(output), made)
+
+    def lent(self, n=2, tags=None, h=3, output=4):
+        """Memory to be loaded into, which holds what no machine does."""
+        r = sam.Registers(*[self.BEYOND] * 9)
+        return sam.State([9] * n, [9] * (n if tags is None else tags), [9] * h, bytearray([9] * output), r)
+
+    def saved(self, made, state):
+        """The image of an accepted save: "rest zero, length told", and nothing else is changed."""
+        image, before = bytearray([0xA5] * 4638), contents(state)
+        number, length = sam.save(made, state, image)
+        self.assertEqual((number, any(image[length:]), len(image)), (0, False, 4638))
+        self.assertEqual(contents(state), before)
+        return bytes(image[:length])
+
+    def check_not_saved(self, made, state, size, number):
+        """ "zero one of right length and tell length 0", "leave an output of wrong length untouched" """
+        image, before = bytearray([0xA5] * size), contents(state)
+        self.assertEqual(sam.save(made, state, image), (number, 0))
+        self.assertEqual(image, bytes(4638) if size == 4638 else bytes([0xA5] * size))
+        self.assertEqual(contents(state), before)
+
+    def check_refused(self, number, image, made=None, lent=None):
+        """ "A refused load does as a refused reset": zero registers, and nothing else changes."""
+        lent = lent or self.lent()
+        bits, tags, history, output, _ = contents(lent)
+        self.assertEqual(sam.load(made or self.program(), lent, bytes(image)), number)
+        self.assertEqual(contents(lent), (bits, tags, history, output, sam.Registers()))
+
+    def check_loaded(self, image, expected, made=None, h=3, output=4):
+        """As expected, but for the history, which is zero, and U, the kept number and H; the output's rest is zero."""
+        made, n = made or self.program(), len(expected.bits)
+        lent = self.lent(n, n, h, output)
+        self.assertEqual(sam.load(made, lent, bytes(image)), 0)
+        shown = bytes(expected.output[: expected.registers.written])
+        registers = replace(expected.registers, h=h, used=0, kept=0)
+        self.assertEqual(
+            contents(lent), (expected.bits, expected.tags, [0] * h, shown + bytes(output - len(shown)), registers)
+        )
+        return lent
+
+    def image_of(self, n, count, cells=None, pc=0, sp=0, fbr=0, halt=0):
+        """Of fields that need not be in range; cells INT 0 and bytes 0 unless given."""
+        header = f"{n:010b}{pc:011b}{sp:010b}{fbr:010b}{halt:b}{count:09b}"
+        body = "".join(f"{tag:03b}{bits:032b}" for tag, bits in cells) if cells else "0" * (35 * n)
+        bits = header + body + "0" * (8 * count)
+        bits += "0" * (-len(bits) % 8)
+        return int(bits, 2).to_bytes(len(bits) // 8, "big")
+
+    # ---- what is saved
+
+    def test_fields(self):
+        bits = self.FIELDS.replace(" ", "")
+        self.assertEqual((len(bits), int(bits, 2).to_bytes(17, "big")), (136, self.IMAGE))
+        self.assertEqual(self.saved(self.program(), self.state()), self.IMAGE)
+        self.check_loaded(self.IMAGE, self.state())
+
+    def test_smallest(self):
+        image = bytes.fromhex("00 40 00 00 00 00 00 00 00 00 00")
+        made, state = started("STOP", n=1)
+        self.assertEqual(self.saved(made, state), image)
+        self.check_loaded(image, state, made)
+
+    def test_greatest_header(self):
+        """1111101000 10000000000 1111100111 1111100111 1 100000000, then cells; 4,638 bytes in all."""
+        made = self.program(1024)
+        state = self.state([(INT, 0)] * 1000, pc=1024, sp=999, fbr=999, output=bytes(256), written=256)
+        image = self.saved(made, state)
+        self.assertEqual(image, bytes.fromhex("FA 20 07 CF F3 E0") + bytes(4632))
+        self.check_loaded(image, state, made, output=256)
+        state.set_cell(999, CH, 127)  # bits 35016 to 35050: 100, 25 zeros, 1111111
+        state.output[255] = 255  # 37091 to 37098
+        image = self.saved(made, state)
+        self.assertEqual(image[4377:4382], bytes.fromhex("80 00 00 0F E0"))
+        self.assertEqual((image[4636:], any(image[4382:4636])), (bytes.fromhex("1F E0"), False))
+        self.check_loaded(image, state, made, output=256)
+
+    def test_session(self):
+        """A popped cell keeps its contents, and is saved with the others."""
+        made, state = started("PUSHIMMCH 72 WRITECH PUSHIMMCH 65 PUSHIMMF 2.5 ADDSP -1 STOP", n=3, h=20, output=4)
+        self.assertEqual(sam.run(made, state, 9), (0, 6))
+        image = bytes.fromhex("00 C0 28 02 00 40 30 00 00 01 04 A0 10 00 00 00 00 00 00 04 80")
+        self.assertEqual(self.saved(made, state), image)
+        self.check_loaded(image, state, made)
+
+    def test_each_field(self):
+        """Bits of the image that are 1: each field's most and least significant one, and 8, for N 2, in each."""
+        for ones, cells, output, registers in [
+            ([], [], b"", {}),
+            ([20], [], b"", {"pc": 1}), ([10], [], b"", {"pc": 1024}),
+            ([30], [], b"", {"sp": 1}), ([40], [], b"", {"fbr": 1}), ([41], [], b"", {"halt": 1}),
+            ([50], [], b"\0", {"written": 1}), ([42], [], bytes(256), {"written": 256}),
+            ([51], [(CH, 0), (INT, 0)], b"", {}), ([52], [(MA, 0), (INT, 0)], b"", {}),
+            ([53], [(FLOAT, 0), (INT, 0)], b"", {}), ([52, 53], [(PA, 0), (INT, 0)], b"", {}),
+            ([54], [(INT, 1 << 31), (INT, 0)], b"", {}), ([85], [(INT, 1), (INT, 0)], b"", {}),
+            ([86], [(INT, 0), (CH, 0)], b"", {}), ([88], [(INT, 0), (FLOAT, 0)], b"", {}),
+            ([89], [(INT, 0), (INT, 1 << 31)], b"", {}), ([120], [(INT, 0), (INT, 1)], b"", {}),
+            ([50, 121], [], b"\x80", {"written": 1}), ([50, 128], [], b"\x01", {"written": 1}),
+            ([49, 50, 137], [], b"\0\0\x80", {"written": 3}), ([49, 50, 144], [], b"\0\0\x01", {"written": 3}),
+        ]:  # fmt: skip
+            made = self.program(1024)
+            zeros = {"pc": 0, "sp": 0, "fbr": 0, "halt": 0, "written": 0}
+            state = self.state(cells or [(INT, 0)] * 2, output=output, **{**zeros, **registers})
+            image = self.saved(made, state)
+            bits = "".join(f"{byte:08b}" for byte in image)
+            self.assertEqual([at for at, bit in enumerate(bits) if bit == "1"], sorted([8, *ones]), registers)
+            self.check_loaded(image, state, made, output=256)
+
+    # N, output count and bytes: 51 bits, 35 for each cell and 8 for each byte, in whole bytes.
+    LENGTHS = [
+        (1, 0, 11), (1, 1, 12), (1, 2, 13), (2, 0, 16), (2, 1, 17), (3, 0, 20), (4, 0, 24), (4, 2, 26), (5, 0, 29),
+        (6, 0, 33), (7, 0, 37), (7, 1, 38), (8, 0, 42), (16, 0, 77), (16, 256, 333), (999, 0, 4377), (999, 256, 4633),
+        (1000, 0, 4382), (1000, 255, 4637), (1000, 256, 4638),
+    ]  # fmt: skip
+
+    def test_lengths(self):
+        """The length told is just what is loaded again: 41 with a byte less, 45 with one more."""
+        made = self.program(0)
+        for n, count, size in self.LENGTHS:
+            cells = [(FLOAT, (i + 1) * 0x01020304 % WORD) for i in range(n)]
+            state = self.state(cells, output=bytes(range(256)), pc=0, sp=0, fbr=0, written=count)
+            image = self.saved(made, state)
+            self.assertEqual(len(image), size, (n, count))
+            self.check_loaded(image, state, made, output=256)
+            self.check_refused(41, image[:-1], made, self.lent(n, output=256))
+            self.check_refused(45, image + b"\0", made, self.lent(n, output=256))
+
+    def test_what_is_not_saved(self):
+        """History, H, U, the kept number, the output's rest and the program: images are alike without them."""
+        for h, used, kept in [(0, 0, 0), (1, 0, 0), (8, 4, 1), (8, 4, 4), (8, 8, 3), (8192, 8192, 8192)]:
+            state = self.state(h=h, used=used, kept=kept, output=b"H\xff\x01")
+            for length in (5, 6, 1024):
+                self.assertEqual(self.saved(self.program(length), state), self.IMAGE)
+        self.assertEqual(self.saved(program("ADD DUP MOD OR JUMP 0"), self.state()), self.IMAGE)
+
+    def test_bytes_are_not_judged(self):
+        """Any bytes may be written, of which a CH is less."""
+        for byte in range(256):
+            state = self.state(output=bytes([byte]))
+            image = self.saved(self.program(), state)
+            self.assertEqual(image, self.IMAGE[:15] + (byte << 7).to_bytes(2, "big"))
+            self.check_loaded(image, state)
+
+    # ---- "Refusals for save: 31, then 10."
+
+    # What is 10 of a step: registers, and what stands in the cells.
+    BROKEN_REGISTERS = [
+        {"n": 1}, {"n": 3}, {"n": 0}, {"n": 1 << 32 | 2}, {"h": 2}, {"h": 4}, {"h": 8193}, {"pc": 7}, {"pc": BEYOND},
+        {"sp": 2}, {"fbr": 2}, {"sp": 1 << 32}, {"halt": 2}, {"halt": BEYOND}, {"used": 4}, {"used": 1, "kept": 0},
+        {"used": 1, "kept": 2}, {"kept": 1}, {"written": 2}, {"written": 257}, {"written": 1 << 32},
+    ]  # fmt: skip
+    BROKEN_CELLS = [
+        (0, 5, 0), (1, 5, 0), (1, 7, 0), (1, 8, 0), (0, 255, 0), (0, PA, 7), (1, PA, 7), (1, PA, WORD - 1),
+        (0, CH, 128), (1, CH, 128), (1, CH, WORD - 1),
+    ]  # fmt: skip
+
+    def broken_states(self):
+        """(Program, state)."""
+        for registers in self.BROKEN_REGISTERS:
+            state = self.state(h=3)
+            state.registers = replace(state.registers, **registers)
+            yield self.program(), state
+        for address, tag, bits in self.BROKEN_CELLS:
+            state = self.state(h=3)
+            state.set_cell(address, tag, bits)
+            yield self.program(), state
+        for name in ("bits", "tags", "history"):
+            for change in (lambda lent: lent.append(0), lambda lent: lent.pop()):
+                state = self.state(h=3)
+                change(getattr(state, name))
+                yield self.program(), state
+        yield self.program(), self.state(output=bytes(257))
+        yield self.program(), self.state(output=b"")
+        yield from ((made, self.state()) for made in self.broken_programs())
+
+    def broken_programs(self):
+        table = self.program().table
+        yield sam.Program(table, 1025)
+        yield sam.Program(table[:-1], 6)
+        yield sam.Program(table + [0], 6)
+        yield sam.Program(table[:-1] + [1], 6)
+        yield sam.Program([54 << 32] + table[1:], 6)
+        yield sam.Program([44 << 32 | 7] + table[1:], 6)  # JUMP 7
+        yield self.program(4)  # PC is above
+
+    def test_save_of_broken_states(self):
+        for made, state in self.broken_states():
+            self.assertEqual(sam.step(made, state), 10)
+            self.check_not_saved(made, state, 4638, 10)
+            for size in (0, 17, 4637, 4639, 4866):
+                self.check_not_saved(made, state, size, 31)
+
+    def test_save_of_sound_states(self):
+        """Neither 1 nor 2 nor what else a step meets; no record is looked at."""
+        for registers in [{"halt": 0}, {"pc": 6}, {"pc": 0, "sp": 0}, {"used": 3, "kept": 1}, {"written": 0}]:
+            state = self.state(h=3, **registers)
+            self.assertEqual(len(self.saved(self.program(), state)), 16 if "written" in registers else 17)
+            for size in (0, 17, 4637, 4639, 4866):
+                self.check_not_saved(self.program(), state, size, 31)
+
+    # ---- what is loaded
+
+    def test_memory_before_is_not_judged(self):
+        """Whatever the lent memory and the registers held."""
+        for fill, register in product((0, 1, 5, 255), (0, 1, 2, 1 << 32, self.BEYOND)):
+            r = sam.Registers(*[register] * 9)
+            lent = sam.State([fill] * 2, [fill] * 2, [fill] * 3, bytearray([fill] * 2), r)
+            self.assertEqual(sam.load(self.program(), lent, self.IMAGE), 0)
+            self.assertEqual((lent.cells(0, 2), lent.history, lent.output), (self.CELLS, [0, 0, 0], b"H\0"))
+            self.assertEqual(lent.registers, sam.Registers(2, 3, 5, 1, 1, 1, 0, 0, 1))
+
+    def test_rooms(self):
+        """ "H is the lent history's", 0 to 8,192; an output of as many bytes as are written, up to 256."""
+        for h, output in product((0, 1, 2, 8191, 8192), (1, 2, 255, 256)):
+            self.check_loaded(self.IMAGE, self.state(), h=h, output=output)
+
+    def test_twice(self):
+        """Saving and loading again keeps all that is saved."""
+        lent = self.check_loaded(self.IMAGE, self.state())
+        self.assertEqual(self.saved(self.program(), lent), self.IMAGE)
+        self.check_loaded(self.saved(self.program(), lent), lent, h=0, output=1)
+
+    def test_at_the_ends(self):
+        """Registers, PAs and CHs at the last that a step takes."""
+        for length, cells, registers in [
+            (5, self.CELLS, {}),
+            (6, self.CELLS, {"pc": 6}),
+            (6, [(PA, 6), (PA, 0)], {}),
+            (6, [(CH, 127), (CH, 0)], {"sp": 0, "halt": 0}),
+            (1024, [(PA, 1024), (MA, WORD - 1)], {"pc": 1024}),
+            (0, [(PA, 0), (INT, 1 << 31)], {"pc": 0}),
+        ]:
+            state = self.state(cells, **registers)
+            self.check_loaded(self.saved(self.program(length), state), state, self.program(length))
+
+    # ---- "41 ends early"
+
+    def test_ends_early(self):
+        for size in range(17):
+            self.check_refused(41, self.IMAGE[:size])
+        for n, count, size in [(1, 0, 11), (7, 0, 37), (7, 1, 38), (1, 256, 267), (1023, 0, 4482), (0, 511, 518),
+                               (1023, 511, 4993), (0, 0, 7), (0, 1, 8)]:  # fmt: skip
+            image = self.image_of(n, count)
+            self.assertEqual(len(image), size)
+            for cut in {0, 6, 7, size - 1} - {size}:
+                self.check_refused(41, image[:cut], lent=self.lent(n, output=256))
+
+    # ---- "67 N not that of the lent cells and tags, or a lent history or output outside its range"
+
+    UNFIT = [
+        {"n": 1}, {"n": 3}, {"n": 0}, {"tags": 1}, {"tags": 3}, {"tags": 0}, {"n": 1, "tags": 2}, {"n": 3, "tags": 1},
+        {"n": 1000}, {"n": 1001}, {"n": 1026}, {"tags": 1026}, {"n": 1026, "tags": 2}, {"n": 65538}, {"h": 8193},
+        {"h": 16384}, {"output": 257}, {"output": 512}, {"h": 8193, "output": 257},
+    ]  # fmt: skip
+
+    def test_does_not_fit(self):
+        for sizes in self.UNFIT:
+            self.check_refused(67, self.IMAGE, lent=self.lent(**sizes))
+        for n, lent in [(0, 1), (1, 0), (999, 1000), (1000, 999), (1000, 1001), (1001, 1000), (1023, 1000), (0, 1024)]:
+            self.check_refused(67, self.image_of(n, 0), lent=self.lent(lent))
+
+    # ---- "10 for the ranges of step, an output count above the lent output among them"
+
+    def test_out_of_range(self):
+        for registers in [{"pc": 7}, {"pc": 2047}, {"sp": 2}, {"sp": 1023}, {"fbr": 2}, {"fbr": 1023}]:
+            self.check_refused(10, self.image_of(2, 1, **registers))
+        for address, tag, bits in self.BROKEN_CELLS:
+            if tag < 8:
+                cells = list(self.CELLS)
+                cells[address] = tag, bits
+                for sp in (0, 1):  # live and not
+                    self.check_refused(10, self.image_of(2, 1, cells, sp=sp))
+        for made in self.broken_programs():
+            self.check_refused(10, self.IMAGE, made)
+
+    def test_n_out_of_range(self):
+        """It is that of the lent cells and tags, but no machine's."""
+        for n, size in [(0, 7), (1001, 4386), (1023, 4482)]:
+            image = self.image_of(n, 0)
+            self.assertEqual(len(image), size)
+            self.check_refused(10, image, lent=self.lent(n))
+        for n in (1, 999, 1000):
+            self.assertEqual(sam.load(self.program(), self.lent(n), self.image_of(n, 0)), 0)
+
+    def test_output_count(self):
+        """Above the lent output 10, below 257 and above; the output itself above 256 is 67, whatever the count."""
+        for count, output, number in [
+            (1, 0, 10), (2, 1, 10), (256, 255, 10), (257, 256, 10), (511, 256, 10), (511, 0, 10), (256, 0, 10),
+            (0, 0, 0), (0, 256, 0), (1, 1, 0), (255, 256, 0), (256, 256, 0),
+            (0, 257, 67), (257, 257, 67), (258, 257, 67), (511, 511, 67),
+        ]:  # fmt: skip
+            image = self.image_of(2, count)
+            if number:
+                self.check_refused(number, image, lent=self.lent(output=output))
+            else:
+                self.assertEqual(sam.load(self.program(), self.lent(output=output), image), 0)
+
+    # ---- "45 padding or left-over bytes"
+
+    def test_padding(self):
+        """Behind 1 to 8 cells 2, 7, 4, 1, 6, 3, 0 and 5 bits are left; each alone, and all."""
+        for n, bits in enumerate((2, 7, 4, 1, 6, 3, 0, 5), 1):
+            image = self.image_of(n, 0)
+            for wrong in {*[1 << bit for bit in range(bits)], (1 << bits) - 1} - {0}:
+                self.check_refused(45, image[:-1] + bytes([image[-1] | wrong]), lent=self.lent(n))
+            self.assertEqual(sam.load(self.program(), self.lent(n), image), 0)
+
+    def test_left_over(self):
+        """ "Only the told length is loaded again": all 4,638 bytes of a smaller image are 45."""
+        for more in (b"\0", b"\x80", b"\xff", b"\0\0", bytes(4621), bytes(4622), bytes(70000), self.IMAGE):
+            self.check_refused(45, self.IMAGE + more)
+        image = self.image_of(1000, 256)
+        self.check_refused(45, image + b"\0", lent=self.lent(1000, output=256))
+
+    # ---- the order
+
+    def test_order(self):
+        """41, 67, 10, 45; what ends early has nothing left over."""
+        early = [self.IMAGE[:16], self.IMAGE[:7], self.IMAGE[:6], b"", self.image_of(1023, 511)[:4992]]
+        broken = [self.image_of(2, 1, pc=7), self.image_of(2, 1, sp=2), self.image_of(2, 1, [(7, 0), (INT, 0)]),
+                  self.image_of(2, 5), self.image_of(2, 257)]  # fmt: skip
+        programs = list(self.broken_programs())
+        for sizes in self.UNFIT:
+            for image, made in product(early, (self.program(), *programs)):
+                self.check_refused(41, image, made, self.lent(**sizes))
+            for image, made in product([self.IMAGE, *broken], (self.program(), *programs)):
+                if image != self.IMAGE or made in programs:
+                    self.check_refused(67, image, made, self.lent(**sizes))
+                    self.check_refused(67, image + b"\0", made, self.lent(**sizes))
+            self.check_refused(67, self.IMAGE[:-1] + b"\1", lent=self.lent(**sizes))
+        for image, made in product([self.IMAGE, *broken], (self.program(), *programs)):
+            self.check_refused(41, image[:-1], made)
+            if image != self.IMAGE or made in programs:
+                for over in (image, image + b"\0", image.ljust(4638, b"\0"), image[:-1] + bytes([image[-1] | 1])):
+                    self.check_refused(10, over, made)
+
+    def test_order_of_sizes(self):
+        """N 1,001 and 1,023 are announced before they are judged; a count of 511 too."""
+        for n, count in [(1001, 0), (1023, 0), (1023, 511), (4, 511), (0, 0)]:
+            image = self.image_of(n, count)
+            for lent, number in [(n, 10), (n + 1, 67), (1000, 67)]:
+                self.check_refused(number, image, lent=self.lent(lent, output=256))
+                self.check_refused(number, image + b"\0", lent=self.lent(lent, output=256))
+                self.check_refused(41, image[:-1], lent=self.lent(lent, output=256))
+            self.check_refused(67, image, lent=self.lent(n, output=257))
+            self.check_refused(67, image, lent=self.lent(n, h=8193))
+
+    # ---- under which program
+
+    def test_another_program(self):
+        """ "takes any sound table": a PA and a PC must lie in it, and nothing else is asked."""
+        made, state = started("JSR 3 STOP STOP PUSHIMM 1 STOP", n=4, h=9)
+        self.assertEqual(sam.run(made, state, 1), (50, 1))
+        self.assertEqual((state.cell(0), state.registers.pc), ((PA, 1), 3))
+        image = self.saved(made, state)
+        for length, number in [(0, 10), (1, 10), (2, 10), (3, 0), (4, 0), (1024, 0)]:
+            if number:
+                self.check_refused(number, image, self.program(length), self.lent(4))
+            else:
+                self.check_loaded(image, state, self.program(length))
+        state.set_cell(0, PA, 5)
+        image = self.saved(made, state)
+        for length in (3, 4):  # the PC lies in it, the PA does not
+            self.check_refused(10, image, self.program(length), self.lent(4))
+        lent = self.check_loaded(image, state, program("STOP STOP STOP JUMPIND STOP"))
+        self.assertEqual((sam.step(program("STOP STOP STOP JUMPIND STOP"), lent), lent.registers.pc), (0, 5))
+
+    # ---- sessions carried on
+
+    SESSIONS = [  # a program, N, bytes of output, and the number of the last step
+        ("PUSHIMM 3 a: PUSHIMM 1 SUB DUP JUMPC a STOP", 4, 0, 1),
+        ("JSR f STOP f: PUSHIMM 7 SWAP JUMPIND", 3, 1, 1),
+        ("PUSHIMM 40 PUSHIMMF #40200000 STOREOFF 0", 4, 0, 2),
+        ("PUSHIMM 1 PUSHIMM 2 ADD ADD", 4, 0, 3),
+        ("LINK PUSHIMM 5 POPFBR", 4, 0, 4),
+        ("PUSHIMM 1 PUSHIMM 0 DIV", 4, 0, 5),
+        ("PUSHIMM 1 PUSHSP PUSHIND", 4, 0, 6),
+        ("a: PUSHIMM 1 JUMP a", 5, 0, 7),
+        ("a: PUSHIMMCH 65 WRITECH JUMP a", 3, 3, 12),
+    ]
+
+    def visible(self, state):
+        return contents(state)[:2], bytes(state.output), replace(state.registers, h=0, used=0, kept=0)
+
+    def check_goes_on(self, made, original, spare, last):
+        """ "same answers, cells, tags, output, PC, SP, FBR, HALT, until one is 8": whether they came to the last."""
+        for _ in range(30):
+            number, other = sam.step(made, original), sam.step(made, spare)
+            if 8 in (number, other):
+                return False
+            self.assertEqual((number, self.visible(original)), (other, self.visible(spare)))
+            if number:
+                self.assertEqual(number, last)
+                return True
+        return self.fail("no end")
+
+    def test_goes_on(self):
+        """Whatever the histories, after each number of steps; both without one come to the end."""
+        for text, n, output, last in self.SESSIONS:
+            for steps, rooms in product(range(5), product((0, 1, 4, 64), repeat=2)):
+                made, original = started(text, n, rooms[0], output)
+                sam.run(made, original, steps)
+                spare = self.check_loaded(self.saved(made, original), original, made, rooms[1], output)
+                came = self.check_goes_on(made, original, spare, last)
+                self.assertTrue(came or not {rooms[0], rooms[1]} <= {0, 64}, (text, steps, rooms))
+
+    def test_complaint(self):
+        """A trial over 40 tenths is saved and carried on: there it is taken back, and 40 tenths are read again. What
+        was done before the load is not taken back."""
+        made, state = started("PUSHIMM 40 PUSHIMMF #40200000 STOREOFF 0 STOP", n=3, h=9)
+        self.assertEqual(sam.run(made, state, 1), (50, 1))
+        spare = self.check_loaded(self.saved(made, state), state, made, h=5, output=0)
+        before = contents(spare)
+        self.assertEqual((sam.step_back(made, spare), sam.forget(made, spare, 1)), (9, 14))
+        self.assertEqual((contents(spare), spare.registers.kept), (before, 0))
+        self.assertEqual((sam.step(made, spare), sam.step(made, spare)), (0, 0))
+        self.assertEqual((spare.cell(0), spare.registers.kept, sam.step(made, spare)), ((FLOAT, 0x40200000), 2, 0))
+        self.assertEqual(sam.dwell(made, spare), (0, 25))
+        self.assertEqual(sam.step(made, spare), 1)
+        self.assertEqual([sam.step_back(made, spare) for _ in range(4)], [0, 0, 0, 9])
+        self.assertEqual(contents(spare), before)
+        self.assertEqual(spare.cell(0), (INT, 40))
+        halted = program("PUSHIMM 40 STOP")
+        self.assertEqual((sam.step(halted, spare), sam.dwell(halted, spare)), (0, (0, 40)))
+        carried = self.check_loaded(self.saved(halted, spare), spare, halted, h=0, output=0)
+        self.assertEqual((sam.dwell(halted, carried), sam.step(halted, carried)), ((0, 40), 1))
+
+    # ---- demand 3, from a load
+
+    def fresh_run(self, made, image, state, steps):
+        """After "a fresh load in place of a fresh reset" and so many steps, with room for all their records; and U
+        after each number of steps."""
+        n, size = state.registers.n, len(state.output)
+        fresh = self.lent(n, n, 0, size)
+        self.assertEqual(sam.load(made, fresh, image), 0)
+        fresh.history, fresh.registers.h = [0] * (steps * (n + 1)), steps * (n + 1)
+        used = [0]
+        for _ in range(steps):
+            self.assertEqual(plain_step(made, fresh), 0)
+            used.append(fresh.registers.used)
+        return fresh, used
+
+    def check_demand(self, made, image, state, counts):
+        """All but the history is that run's; the first U places are "exactly the newest S minus B minus F records"."""
+        (net_steps, forgotten), h = counts, len(state.history)
+        fresh, used = self.fresh_run(made, image, state, net_steps)
+        self.assertEqual(self.visible(state), self.visible(fresh))
+        newest = fresh.history[used[forgotten] : used[net_steps]] if h else []
+        kept = net_steps - forgotten if h else 0
+        self.assertEqual((state.registers.h, state.registers.used, state.registers.kept), (h, len(newest), kept))
+        self.assertEqual(state.history, newest + [0] * (h - len(newest)))
+
+    def any_call(self, chooser, made, state, counts):
+        """S minus B and F after a call, counted from the load. 9 exactly when they are equal, or H = 0."""
+        (net_steps, forgotten), kept = counts, state.registers.kept
+        kind = chooser.randrange(7)
+        if kind < 2:
+            return net_steps + (sam.step(made, state) == 0), forgotten
+        if kind < 4:
+            number = sam.step_back(made, state)
+            self.assertEqual(number, 9 if net_steps == forgotten or not state.history else 0)
+            return net_steps - (number == 0), forgotten
+        if kind < 6:
+            return net_steps + sam.run(made, state, chooser.randrange(12))[1], forgotten
+        k = chooser.choice([0, 1, kept, kept + 1, chooser.randrange(kept + 1)])
+        number = sam.forget(made, state, k)
+        self.assertEqual(number, 14 if k > kept else 0)
+        return net_steps, forgotten + (k if number == 0 else 0)
+
+    def test_demand(self):
+        """Sessions after any steps, saved, loaded into any room, and series there; saved and loaded again between."""
+        chooser = random.Random(11)
+        for h in [0, 1, 2, 5, 12, 40, 200] * 8:
+            made, n, output = drawn_program(chooser), chooser.choice([1, 2, 5, 16, 40]), chooser.choice([0, 1, 4, 256])
+            state = self.lent(n, n, 30, output)
+            self.assertEqual(sam.reset(made, state), 0)
+            sam.run(made, state, chooser.randrange(12))
+            for _ in range(2):
+                image = self.saved(made, state)
+                state, counts = self.check_loaded(image, state, made, h, output), (0, 0)
+                for _ in range(8):
+                    counts = self.any_call(chooser, made, state, counts)
+                    self.check_demand(made, image, state, counts)
 
 
 class Soundness(unittest.TestCase):

@@ -1,4 +1,4 @@
-/* Tests of the C library through sam.h: the complaint of document 01, those of requests b and d, requests e to j, and
+/* Tests of the C library through sam.h: the complaint of document 01, those of requests b and d, requests e to k, and
  * samples of every refusal. One line for each check. */
 #include <stdbool.h>
 #include <stdio.h>
@@ -34,11 +34,13 @@ static uint64_t table[SAM_TABLE_PLACES + 1], told[SAM_ASSEMBLE_TOLD + 1];
 static uint64_t length;
 static uint8_t text[SAM_TEXT_BYTES + 1], image[SAM_IMAGE_BYTES + 1];
 
+enum { MOST_CELLS = 1030, MOST_OUTPUT = 512 }; /* more than a machine may have */
+
 static uint64_t registers[SAM_REGISTERS + 1];
-static uint32_t bits[SAM_CELL_LIMIT + 1];
-static uint8_t tags[SAM_CELL_LIMIT + 1];
+static uint32_t bits[MOST_CELLS];
+static uint8_t tags[MOST_CELLS];
 static uint64_t history[SAM_HISTORY_LIMIT + 1];
-static uint8_t output[SAM_OUTPUT_LIMIT + 1];
+static uint8_t output[MOST_OUTPUT];
 static size_t n, h, output_len = SAM_OUTPUT_LIMIT;
 
 enum { MARK = 77 }; /* in lent memory, where a write is to be seen */
@@ -262,9 +264,9 @@ static const struct { const char *source; uint64_t steps; } wrapping_addresses[]
 
 /* All that a call may change, as it was. */
 static struct machine {
-    uint64_t registers[SAM_REGISTERS], history[SAM_HISTORY_LIMIT];
-    uint32_t bits[SAM_CELL_LIMIT];
-    uint8_t tags[SAM_CELL_LIMIT], output[SAM_OUTPUT_LIMIT + 1];
+    uint64_t registers[SAM_REGISTERS], history[SAM_HISTORY_LIMIT + 1];
+    uint32_t bits[MOST_CELLS];
+    uint8_t tags[MOST_CELLS], output[MOST_OUTPUT];
 } before;
 
 static void remember(void) {
@@ -275,12 +277,16 @@ static void remember(void) {
     memcpy(before.output, output, sizeof before.output);
 }
 
-static void check_unchanged(const char *name) {
-    check(name, 0, (uint64_t)(memcmp(before.registers, registers, sizeof before.registers) != 0));
+static void check_memory_unchanged(const char *name) {
     check(name, 0, (uint64_t)(memcmp(before.history, history, sizeof before.history) != 0));
     check(name, 0, (uint64_t)(memcmp(before.bits, bits, sizeof before.bits) != 0));
     check(name, 0, (uint64_t)(memcmp(before.tags, tags, sizeof before.tags) != 0));
     check(name, 0, (uint64_t)(memcmp(before.output, output, sizeof before.output) != 0));
+}
+
+static void check_unchanged(const char *name) {
+    check(name, 0, (uint64_t)(memcmp(before.registers, registers, sizeof before.registers) != 0));
+    check_memory_unchanged(name);
 }
 
 /* After a refused step: it is refused again, alone and in a run, and nothing changes. */
@@ -587,6 +593,36 @@ static void check_dwell(const char *name, uint32_t number, uint64_t tenths) {
     check_told_marked(1);
     check_unchanged("  nothing written");
     check("  nothing written", 0, (uint64_t)(memcmp(table_before, table, sizeof table_before) != 0));
+}
+
+/* How many of these bytes have another value. */
+static uint64_t others(const uint8_t *bytes, size_t count, uint8_t value) {
+    uint64_t found = 0;
+    for (size_t i = 0; i < count; i++) found += bytes[i] != value;
+    return found;
+}
+
+static uint8_t state[SAM_STATE_BYTES + 1]; /* where states are saved */
+
+/* A save with these lengths, into an image where a write is seen. */
+static uint32_t save_with(size_t registers_len, size_t image_len, size_t told_len) {
+    remember();
+    mark_told();
+    memset(state, MARK, sizeof state);
+    return sam_save(table, SAM_TABLE_PLACES, length, registers, registers_len, bits, n, tags, n, history, h, output,
+                    output_len, state, image_len, told, told_len);
+}
+
+/* "Refused writers leave an output of wrong length untouched, zero one of right length and tell length 0." */
+static void check_not_saved(const char *name, size_t registers_len, size_t image_len, size_t told_len,
+                            uint32_t number) {
+    size_t zeroed = image_len == SAM_STATE_BYTES ? SAM_STATE_BYTES : 0;
+    check(name, number, save_with(registers_len, image_len, told_len));
+    if (told_len == 1) check("  length", 0, told[0]);
+    check_told_marked(told_len == 1);
+    check("  bytes not zero where the image's length is right", 0, others(state, zeroed, 0));
+    check("  bytes changed elsewhere", 0, others(state + zeroed, sizeof state - zeroed, MARK));
+    check_unchanged("  nothing else written");
 }
 
 /* A program, and the tenths read where it has halted. */
@@ -966,6 +1002,7 @@ static void check_all_refused(void) {
     check("  11 before 10", 11, run(1000001));
     check_unchanged("  nothing changed");
     check_dwell("  dwell", 10, 0);
+    check_not_saved("  save", SAM_REGISTERS, SAM_STATE_BYTES, 1, 10);
 }
 
 /* H, U and a kept number above U, or 0 with U above 0. */
@@ -1058,6 +1095,16 @@ static uint32_t pack_broken(size_t image_len, size_t told_len) {
     return sam_pack(table, SAM_TABLE_PLACES - 1, length, image, image_len, told, told_len);
 }
 
+static uint32_t save_done(size_t image_len, size_t told_len) {
+    return sam_save(table, SAM_TABLE_PLACES, length, registers, SAM_REGISTERS, bits, n, tags, n, history, h, output,
+                    output_len, state, image_len, told, told_len);
+}
+
+static uint32_t save_broken(size_t image_len, size_t told_len) {
+    return sam_save(table, SAM_TABLE_PLACES - 1, length, registers, SAM_REGISTERS, bits, n, tags, n, history, h, output,
+                    output_len, state, image_len, told, told_len);
+}
+
 /* A call, its number where all lengths are right, these lengths, and its output with the bytes of an element. */
 static const struct writer {
     const char *name;
@@ -1076,14 +1123,9 @@ static const struct writer {
     {"list a broken table", list_broken, 10, SAM_TEXT_BYTES, 1, text, sizeof text[0]},
     {"pack", pack_done, 0, SAM_IMAGE_BYTES, 1, image, sizeof image[0]},
     {"pack a broken table", pack_broken, 10, SAM_IMAGE_BYTES, 1, image, sizeof image[0]},
+    {"save", save_done, 0, SAM_STATE_BYTES, 1, state, sizeof state[0]},
+    {"save a broken table", save_broken, 10, SAM_STATE_BYTES, 1, state, sizeof state[0]},
 };
-
-/* How many of these bytes have another value. */
-static uint64_t others(const uint8_t *bytes, size_t count, uint8_t value) {
-    uint64_t found = 0;
-    for (size_t i = 0; i < count; i++) found += bytes[i] != value;
-    return found;
-}
 
 /* 31 for a told of this length; an output of right length is zero then, and one of another length as it was. */
 static void check_wrong_told(const struct writer *writer, size_t output_len, size_t told_len) {
@@ -1177,6 +1219,35 @@ static void check_steps_with(size_t len) {
     }
 }
 
+/* 31 before 10. */
+static void check_saves_with(size_t registers_len) {
+    for (size_t told_len = 0; told_len <= SAM_ASSEMBLE_TOLD + 1; told_len++) {
+        check_not_saved("  31 or 10 of a save", registers_len, SAM_STATE_BYTES, told_len, told_len == 1 ? 10 : 31);
+        check_not_saved("  31 of a save", registers_len, SAM_STATE_BYTES + 1, told_len, 31);
+    }
+}
+
+static uint32_t load_with(const uint8_t *saved, size_t saved_len, size_t places, size_t registers_len, size_t cells,
+                          size_t tag_count, size_t history_len, size_t size) {
+    return sam_load(saved, saved_len, table, places, length, registers, registers_len, bits, cells, tags, tag_count,
+                    history, history_len, output, size);
+}
+
+static const uint8_t four_zeros[25] = {0x01}; /* a state of four cells INT 0, in 24 bytes, and one byte more */
+
+/* 41 and 67 before 10, and 10 before 45. */
+static void check_loads_with(size_t registers_len) {
+    for (size_t places = 0; places <= SAM_TABLE_PLACES; places += SAM_TABLE_PLACES) {
+        check("  41 of a load", 41, load_with(four_zeros, 23, places, registers_len, 4, 4, 8, 256));
+        check("  41 of a load", 41, load_with(four_zeros, 23, places, registers_len, 4, 3, 8, 256));
+        check("  67 of a load", 67, load_with(four_zeros, 24, places, registers_len, 4, 3, 8, 256));
+        check("  67 of a load", 67, load_with(four_zeros, 25, places, registers_len, 4, 4, 8193, 256));
+        check("  67 of a load", 67, load_with(four_zeros, 25, places, registers_len, 4, 4, 8, 257));
+        check("  10 of a load", 10, load_with(four_zeros, 24, places, registers_len, 4, 4, 8, 256));
+        check("  10 of a load", 10, load_with(four_zeros, 25, places, registers_len, 4, 4, 8, 256));
+    }
+}
+
 /* With nine registers, a told of one and nothing beyond its sizes each call would be done. */
 static void test_lengths_of_machine_calls(void) {
     begin("PUSHIMMF 2.5 STOP", 4, 8);
@@ -1189,6 +1260,8 @@ static void test_lengths_of_machine_calls(void) {
         if (len != SAM_REGISTERS) {
             check_resets_with(len);
             check_steps_with(len);
+            check_saves_with(len);
+            check_loads_with(len);
         }
         check_unchanged("  nothing changed");
         check("  the tenth", MARK, registers[SAM_REGISTERS]);
@@ -1282,6 +1355,8 @@ static void broken(const char *name, uint64_t *value, uint64_t wrong) {
     check(name, 10, forget(UINT64_MAX));
     check(name, 10, run(1));
     check_dwell(name, 10, 0);
+    check_not_saved(name, SAM_REGISTERS, SAM_STATE_BYTES, 1, 10);
+    check_not_saved("  31 before 10", SAM_REGISTERS, SAM_STATE_BYTES - 1, 1, 31);
     check(name, wrong, *value);
     *value = right;
 }
@@ -2370,6 +2445,441 @@ static void test_played_depths(void) {
     }
 }
 
+/* ---- request k: carry a session to the spare controller */
+
+/* A save of the machine as it is: these bytes, the rest zero, their number told, and nothing else written. */
+static void check_saved(const char *name, const uint8_t *bytes, size_t size) {
+    memcpy(table_before, table, sizeof table);
+    check(name, 0, save_with(SAM_REGISTERS, SAM_STATE_BYTES, 1));
+    check("  length", size, told[0]);
+    check_told_marked(1);
+    check("  its bytes", 0, (uint64_t)(memcmp(state, bytes, size) != 0));
+    check("  the rest zero", 0, others(state + size, SAM_STATE_BYTES - size, 0));
+    check("  bytes changed behind it", 0, others(state + SAM_STATE_BYTES, 1, MARK));
+    check_unchanged("  nothing else written");
+    check("  nothing else written", 0, (uint64_t)(memcmp(table_before, table, sizeof table) != 0));
+}
+
+/* All lent memory holds what no machine does. */
+static void wipe(void) {
+    memset(registers, MARK, sizeof registers);
+    memset(bits, MARK, sizeof bits);
+    memset(tags, MARK, sizeof tags);
+    memset(history, MARK, sizeof history);
+    memset(output, MARK, sizeof output);
+}
+
+/* What is lent to a load. */
+struct lent {
+    size_t registers, cells, tags, places, bytes;
+};
+
+static uint32_t load(const uint8_t *saved, size_t saved_len, struct lent lent) {
+    return load_with(saved, saved_len, SAM_TABLE_PLACES, lent.registers, lent.cells, lent.tags, lent.places,
+                     lent.bytes);
+}
+
+enum { LONGEST_SAVED = 65536 + 17 }; /* that a load is tried with */
+
+/* "A refused load does as a refused reset": zero registers, and nothing else changes. */
+static void check_not_loaded(const char *name, const uint8_t *saved, size_t saved_len, size_t places, struct lent lent,
+                             uint32_t number) {
+    static uint8_t saved_before[LONGEST_SAVED];
+    wipe();
+    remember();
+    memcpy(saved_before, saved, saved_len);
+    check(name, number, load_with(saved, saved_len, places, lent.registers, lent.cells, lent.tags, lent.places,
+                                  lent.bytes));
+    for (size_t i = 0; i < SAM_REGISTERS; i++) {
+        check("  registers", lent.registers == SAM_REGISTERS ? 0 : before.registers[i], registers[i]);
+    }
+    check("  the tenth", before.registers[0], registers[SAM_REGISTERS]);
+    check_memory_unchanged("  nothing else changed");
+    check("  nor the image", 0, (uint64_t)(memcmp(saved_before, saved, saved_len) != 0));
+}
+
+/* What an accepted load leaves besides cells, tags, written output, PC, SP, FBR and HALT: H is the lent history's, U
+ * and the kept number are 0, history and the output's rest are zero; and nothing is written outside. */
+static void check_origin(size_t cells, size_t places, size_t bytes) {
+    check("  N", cells, registers[SAM_N]);
+    check("  H", places, registers[SAM_H_PLACES]);
+    check_count("  kept", 0, 0);
+    uint64_t used = 0;
+    for (size_t i = 0; i < places; i++) used += history[i] != 0;
+    check("  history not zero", 0, used);
+    check("  the output's rest", 0, others(output + registers[SAM_WRITTEN], bytes - registers[SAM_WRITTEN], 0));
+    check("  outside", before.registers[0], registers[SAM_REGISTERS]);
+    check("  outside", before.bits[cells], bits[cells]);
+    check("  outside", before.tags[cells], tags[cells]);
+    check("  outside", before.history[places], history[places]);
+    check("  outside", before.output[bytes], output[bytes]);
+}
+
+/* The spare controller: the same cells and output, wiped before, and a history of its own. */
+static void load_spare(const uint8_t *saved, size_t saved_len, size_t places) {
+    wipe();
+    remember();
+    h = places;
+    check("  load", 0, load(saved, saved_len, (struct lent){SAM_REGISTERS, n, n, h, output_len}));
+    check_origin(n, h, output_len);
+}
+
+/* What is alike at both controllers. */
+static void check_as_original(const char *name, const struct machine *original) {
+    static const int carried[] = {SAM_N, SAM_PC, SAM_SP, SAM_FBR, SAM_HALT, SAM_WRITTEN};
+    for (size_t i = 0; i < sizeof carried / sizeof carried[0]; i++) {
+        check(name, original->registers[carried[i]], registers[carried[i]]);
+    }
+    check(name, 0, (uint64_t)(memcmp(original->bits, bits, n * sizeof bits[0]) != 0));
+    check(name, 0, (uint64_t)(memcmp(original->tags, tags, n) != 0));
+    check(name, 0, (uint64_t)(memcmp(original->output, output, output_len) != 0));
+}
+
+enum { CARRIED_STEPS = 8 };
+
+/* The session goes on at the first controller until a step is refused, is saved before, and goes on at the spare one in
+ * the same way. The number of steps made. */
+static size_t carry_on(size_t places, uint32_t last) {
+    static struct machine after[CARRIED_STEPS];
+    static uint8_t carried[SAM_STATE_BYTES];
+    uint32_t numbers[CARRIED_STEPS];
+    size_t count = 0;
+    check("  save", 0, save_with(SAM_REGISTERS, SAM_STATE_BYTES, 1));
+    size_t carried_len = told[0];
+    memcpy(carried, state, sizeof carried);
+    do {
+        numbers[count] = step();
+        remember();
+        after[count] = before;
+    } while (numbers[count++] == 0 && count < CARRIED_STEPS);
+    check("  the last step", last, numbers[count - 1]);
+    load_spare(carried, carried_len, places);
+    for (size_t i = 0; i < count; i++) {
+        check("  the same answer", numbers[i], step());
+        check_as_original("  the same machine", &after[i]);
+    }
+    return count - 1;
+}
+
+/* Four cells, PC 1, SP 1, and INT 40 in the first. */
+static const uint8_t before_trial[24] = {0x01, 0x00, 0x08, 0x02, 0, 0, 0, 0, 0, 0, 0xA0};
+
+/* A technician saves a session before a trial, and goes on at the spare controller. */
+static void test_carried_trial(void) {
+    static struct machine loaded;
+    puts("a trial carried to the spare controller");
+    output_len = 4;
+    begin(TRIAL, 4, 16);
+    check("  PUSHIMM 40", 0, step());
+    check_saved("  save", before_trial, sizeof before_trial);
+    check("  kept at the first controller", 1, registers[SAM_KEPT]);
+    load_spare(before_trial, sizeof before_trial, 9);
+    check_cell("  cell 0", 0, SAM_INT, 40);
+    remember();
+    loaded = before;
+    check("  what was before is not taken back", 9, step_back());
+    check("  nor forgotten", 14, forget(1));
+    check_unchanged("  nothing changed");
+    check_saved("  saved again", before_trial, sizeof before_trial);
+    check("  the trial", 0, step());
+    check("  the trial", 0, step());
+    check_cell("  cell 0", 0, SAM_FLOAT, 0x40200000);
+    check("  STOP", 0, step());
+    check_dwell("  read", 0, 25);
+    check("  kept", 3, registers[SAM_KEPT]);
+    for (int i = 0; i < 3; i++) check("  step-back", 0, step_back());
+    check("  step-back", 9, step_back());
+    check_cell("  tag and bits", 0, SAM_INT, 40);
+    before = loaded;
+    check_unchanged("  as it was loaded");
+    puts("step by step with the original");
+    begin(TRIAL, 4, 16);
+    check("  PUSHIMM 40", 0, step());
+    check("  steps", 3, carry_on(7, 1));
+    check_dwell("  read at the spare controller", 0, 25);
+    puts("the dwell of 40 tenths, carried");
+    begin(DOORS, 4, 0);
+    check("  run", 0, run(100));
+    check_dwell("  read", 0, 40);
+    check("  steps", 0, carry_on(3, 1));
+    check_dwell("  read at the spare controller", 0, 40);
+    output_len = SAM_OUTPUT_LIMIT;
+}
+
+/* A program, cells, output and steps before the save; how many are made after it, and the number of the last. */
+static const struct {
+    const char *source;
+    size_t cells, bytes;
+    uint64_t steps;
+    uint32_t last;
+    size_t made;
+} sessions[] = {
+    {"PUSHIMM 2 a: PUSHIMM 1 SUB DUP JUMPC a STOP", 4, 0, 6, 1, 4},
+    {"JSR f STOP f: PUSHIMM 7 SWAP JUMPIND", 3, 0, 2, 1, 3},
+    {"PUSHIMM 1 PUSHIMM 2 ADD ADD", 4, 0, 1, 3, 2},
+    {"LINK PUSHIMM 5 POPFBR", 4, 0, 1, 4, 1},
+    {"PUSHIMM 1 PUSHIMM 0 DIV", 4, 0, 2, 5, 0},
+    {"PUSHIMM 1 PUSHSP PUSHIND", 4, 0, 1, 6, 1},
+    {"a: PUSHIMM 1 JUMP a", 3, 0, 2, 7, 2},
+    {"a: PUSHIMMCH 72 WRITECH JUMP a", 3, 3, 5, 12, 5},
+    {"PUSHIMM 1 PUSHIMM 2", 4, 0, 0, 2, 2},
+};
+
+static void test_carried_sessions(void) {
+    static const size_t rooms[] = {0, 64};
+    for (size_t i = 0; i < sizeof sessions / sizeof sessions[0]; i++) {
+        for (size_t pair = 0; pair < 4; pair++) {
+            printf("%s, H = %zu, carried to H = %zu\n", sessions[i].source, rooms[pair / 2], rooms[pair % 2]);
+            output_len = sessions[i].bytes;
+            begin(sessions[i].source, sessions[i].cells, rooms[pair / 2]);
+            check("  run", sessions[i].steps > 0 ? 50 : 2, run(sessions[i].steps > 0 ? sessions[i].steps : 9));
+            if (sessions[i].steps == 0) check("  reset", 0, reset(n, h));
+            check("  steps", sessions[i].made, carry_on(rooms[pair % 2], sessions[i].last));
+        }
+    }
+    output_len = SAM_OUTPUT_LIMIT;
+}
+
+/* Two cells, CH 65 and FLOAT 2.5; PC 5, SP 1, FBR 1, HALT 1, and one byte of output, 72. In bits: 0000000010
+ * 00000000101 0000000001 0000000001 1 000000001, 100 and 65, 001 and 2.5, 01001000, and seven zeros. */
+enum { BY_HAND = 17 };
+static const uint8_t by_hand[BY_HAND] = {
+    0x00, 0x80, 0x28, 0x02, 0x00, 0xC0, 0x30, 0x00, 0x00, 0x01, 0x04, 0xA0, 0x10, 0x00, 0x00, 0x24, 0x00,
+};
+static const struct lent FIT = {SAM_REGISTERS, 2, 2, 3, 4};
+
+/* Six STOPs, and that state. */
+static void make_state(void) {
+    begin("STOP STOP STOP STOP STOP STOP", 2, 3);
+    registers[SAM_PC] = 5;
+    registers[SAM_SP] = registers[SAM_FBR] = registers[SAM_HALT] = registers[SAM_WRITTEN] = 1;
+    tags[0] = SAM_CH, bits[0] = 65;
+    tags[1] = SAM_FLOAT, bits[1] = 0x40200000;
+    output[0] = 72;
+}
+
+static void test_saved_by_hand(void) {
+    puts("a state by hand");
+    output_len = 4;
+    make_state();
+    check_saved("  save", by_hand, BY_HAND);
+    memset(output + 1, 0xEE, 3);
+    memset(history, 0x6E, 3 * sizeof history[0]); /* no record */
+    registers[SAM_U] = 3, registers[SAM_KEPT] = 2;
+    check_saved("  with any history and output behind", by_hand, BY_HAND);
+    static const size_t lengths[] = {0, BY_HAND, SAM_STATE_BYTES - 1, SAM_STATE_BYTES + 1};
+    for (size_t i = 0; i < sizeof lengths / sizeof lengths[0]; i++) {
+        check_not_saved("  an image of another length", SAM_REGISTERS, lengths[i], 1, 31);
+    }
+    wipe();
+    remember();
+    check("  load", 0, load(by_hand, BY_HAND, FIT));
+    check_origin(2, 3, 4);
+    check_cell("  cell 0", 0, SAM_CH, 65);
+    check_cell("  cell 1", 1, SAM_FLOAT, 0x40200000);
+    check("  PC", 5, registers[SAM_PC]);
+    check("  SP", 1, registers[SAM_SP]);
+    check("  FBR", 1, registers[SAM_FBR]);
+    check("  HALT", 1, registers[SAM_HALT]);
+    check_output("  written", "H", 1);
+    n = 2, h = 3;
+    check_saved("  saved again", by_hand, BY_HAND);
+    check("  step", 1, step());
+    output_len = SAM_OUTPUT_LIMIT;
+}
+
+/* A byte of that image that is another, what is lent, and the number. */
+static const struct {
+    const char *name;
+    size_t at;
+    uint8_t byte;
+    struct lent lent;
+    uint32_t number;
+} changed_states[] = {
+    {"  as it is", 0, 0x00, {9, 2, 2, 3, 4}, 0},
+    {"  PC at the length", 2, 0x30, {9, 2, 2, 3, 4}, 0},
+    {"  HALT 0", 5, 0x80, {9, 2, 2, 3, 4}, 0},
+    {"  FBR 0", 5, 0x40, {9, 2, 2, 3, 4}, 0},
+    {"  an MA", 6, 0x28, {9, 2, 2, 3, 4}, 0},
+    {"  CH 127", 9, 0x01, {9, 2, 2, 3, 4}, 0},
+    {"  any byte", 15, 0x7F, {9, 2, 2, 3, 4}, 0},
+    {"  no room for more output", 0, 0x00, {9, 2, 2, 3, 1}, 0},
+    {"  no history", 0, 0x00, {9, 2, 2, 0, 4}, 0},
+    {"  all there can be", 0, 0x00, {9, 2, 2, 8192, 256}, 0},
+    {"  three cells announced", 1, 0xC0, {9, 2, 2, 3, 4}, 41},
+    {"  three cells announced and lent", 1, 0xC0, {9, 3, 3, 3, 4}, 41},
+    {"  five bytes announced", 6, 0xB0, {9, 2, 2, 3, 8}, 41},
+    {"  1,022 cells announced", 0, 0xFF, {9, 1022, 1022, 3, 4}, 41},
+    {"  one cell announced", 1, 0x40, {9, 2, 2, 3, 4}, 67},
+    {"  one cell lent", 0, 0x00, {9, 1, 1, 3, 4}, 67},
+    {"  three cells lent", 0, 0x00, {9, 3, 3, 3, 4}, 67},
+    {"  three tags", 0, 0x00, {9, 2, 3, 3, 4}, 67},
+    {"  no tag", 0, 0x00, {9, 2, 0, 3, 4}, 67},
+    {"  1,026 cells lent", 0, 0x00, {9, 1026, 1026, 3, 4}, 67},
+    {"  8,193 places", 0, 0x00, {9, 2, 2, 8193, 4}, 67},
+    {"  257 bytes", 0, 0x00, {9, 2, 2, 3, 257}, 67},
+    {"  PC above the length", 2, 0x38, {9, 2, 2, 3, 4}, 10},
+    {"  PC far above", 1, 0xBF, {9, 2, 2, 3, 4}, 10},
+    {"  SP at N", 3, 0x04, {9, 2, 2, 3, 4}, 10},
+    {"  FBR above N", 4, 0x01, {9, 2, 2, 3, 4}, 10},
+    {"  tag 5", 6, 0x34, {9, 2, 2, 3, 4}, 10},
+    {"  tag 7", 6, 0x3C, {9, 2, 2, 3, 4}, 10},
+    {"  tag 5 above SP", 10, 0x06, {9, 2, 2, 3, 4}, 10},
+    {"  PA 65", 6, 0x2C, {9, 2, 2, 3, 4}, 10},
+    {"  CH 193", 9, 0x03, {9, 2, 2, 3, 4}, 10},
+    {"  less output lent than is written", 0, 0x00, {9, 2, 2, 3, 0}, 10},
+    {"  eight registers", 0, 0x00, {8, 2, 2, 3, 4}, 10},
+    {"  ten registers", 0, 0x00, {10, 2, 2, 3, 4}, 10},
+    {"  no registers", 0, 0x00, {0, 2, 2, 3, 4}, 10},
+    {"  the last bit of padding", 16, 0x01, {9, 2, 2, 3, 4}, 45},
+    {"  the first bit of padding", 16, 0x40, {9, 2, 2, 3, 4}, 45},
+    /* 67 before 10 and 45, and 10 before 45 */
+    {"  SP at N, three cells lent", 3, 0x04, {9, 3, 3, 3, 4}, 67},
+    {"  tag 5, 257 bytes", 6, 0x34, {9, 2, 2, 3, 257}, 67},
+    {"  eight registers, 8,193 places", 0, 0x00, {8, 2, 2, 8193, 4}, 67},
+    {"  padding, one tag", 16, 0x01, {9, 2, 1, 3, 4}, 67},
+    {"  padding, no output lent", 16, 0x01, {9, 2, 2, 3, 0}, 10},
+    {"  padding, ten registers", 16, 0x01, {10, 2, 2, 3, 4}, 10},
+};
+
+static void test_changed_states(void) {
+    puts("loads of that state with a byte changed");
+    make_state();
+    for (size_t i = 0; i < sizeof changed_states / sizeof changed_states[0]; i++) {
+        uint8_t changed[BY_HAND];
+        struct lent lent = changed_states[i].lent;
+        uint32_t number = changed_states[i].number;
+        memcpy(changed, by_hand, BY_HAND);
+        changed[changed_states[i].at] = changed_states[i].byte;
+        if (number == 0) {
+            wipe();
+            remember();
+            check(changed_states[i].name, 0, load(changed, BY_HAND, lent));
+            check_origin(lent.cells, lent.places, lent.bytes);
+        } else {
+            check_not_loaded(changed_states[i].name, changed, BY_HAND, SAM_TABLE_PLACES, lent, number);
+            check_not_loaded("  10 of the table, in its place", changed, BY_HAND, SAM_TABLE_PLACES - 1, lent,
+                             number == 45 ? 10 : number);
+            check_not_loaded("  41 first", changed, 6, 0, lent, 41);
+        }
+    }
+}
+
+/* "Only the told length is loaded again": cut at every byte, and with more behind it. */
+static void test_state_lengths(void) {
+    static uint8_t longer[LONGEST_SAVED];
+    static const struct lent three = {SAM_REGISTERS, 3, 3, 3, 4};
+    puts("loads of less and of more than was told");
+    make_state();
+    memcpy(longer, by_hand, BY_HAND);
+    for (size_t size = 0; size < BY_HAND; size++) {
+        check_not_loaded("  ends early", longer, size, SAM_TABLE_PLACES, FIT, 41);
+        check_not_loaded("  41 before 67", longer, size, SAM_TABLE_PLACES, three, 41);
+        check_not_loaded("  41 before 10", longer, size, 0, FIT, 41);
+    }
+    static const size_t sizes[] = {
+        BY_HAND + 1, BY_HAND + 2, SAM_STATE_BYTES, SAM_STATE_BYTES + 1, 8192, 65536 + BY_HAND,
+    };
+    for (size_t i = 0; i < sizeof sizes / sizeof sizes[0]; i++) {
+        check_not_loaded("  left over", longer, sizes[i], SAM_TABLE_PLACES, FIT, 45);
+        check_not_loaded("  67 before 45", longer, sizes[i], SAM_TABLE_PLACES, three, 67);
+        check_not_loaded("  10 before 45", longer, sizes[i], 0, FIT, 10);
+    }
+}
+
+/* N, an output count, the bytes that they announce, and the number where as much is lent: no state has more than 1,000
+ * cells or 256 bytes, but an image may say so. */
+static const struct { size_t cells, count, size; uint32_t number; } announced[] = {
+    {0, 0, 7, 10}, {0, 1, 8, 10}, {1, 0, 11, 0}, {7, 0, 37, 0}, {999, 0, 4377, 0}, {999, 256, 4633, 0},
+    {1000, 0, 4382, 0}, {1000, 256, 4638, 0}, {1000, 257, 4639, 10}, {1000, 511, 4893, 10}, {1001, 0, 4386, 10},
+    {1001, 256, 4642, 10}, {1023, 0, 4482, 10}, {1023, 511, 4993, 10}, {1, 256, 267, 0}, {1, 257, 268, 10},
+    {1, 511, 522, 10}, {0, 511, 518, 10},
+};
+
+static void test_announced(void) {
+    puts("N and output counts that an image announces");
+    check("  assemble", 0, assemble(""));
+    for (size_t i = 0; i < sizeof announced / sizeof announced[0]; i++) {
+        static uint8_t saved[2 * SAM_STATE_BYTES];
+        size_t cells = announced[i].cells, count = announced[i].count, size = announced[i].size;
+        struct lent lent = {SAM_REGISTERS, cells, cells, 1, 256};
+        struct lent one_more = {SAM_REGISTERS, cells + 1, cells + 1, 1, 256};
+        memset(saved, 0, sizeof saved);
+        saved[0] = (uint8_t)(cells >> 2);
+        saved[1] = (uint8_t)(cells << 6);
+        saved[5] = (uint8_t)(count >> 3);
+        saved[6] = (uint8_t)(count << 5);
+        printf("N = %zu, %zu written\n", cells, count);
+        check_not_loaded("  one byte less", saved, size - 1, SAM_TABLE_PLACES, lent, 41);
+        check_not_loaded("  one cell more lent", saved, size, SAM_TABLE_PLACES, one_more, 67);
+        check_not_loaded("  one byte more", saved, size + 1, SAM_TABLE_PLACES, lent, announced[i].number ? 10 : 45);
+        if (announced[i].number != 0) {
+            check_not_loaded("  all of it", saved, size, SAM_TABLE_PLACES, lent, announced[i].number);
+        } else {
+            wipe();
+            remember();
+            check("  all of it", 0, load(saved, size, lent));
+            check_origin(cells, 1, 256);
+            n = cells, h = 1;
+            check_saved("  saved again", saved, size);
+        }
+    }
+}
+
+/* 1,000 cells, 1,024 instructions and 256 bytes: every field as high as it goes. */
+static void test_greatest_state(void) {
+    static const uint8_t header[] = {0xFA, 0x20, 0x07, 0xCF, 0xF3, 0xE0};
+    static uint8_t saved[SAM_STATE_BYTES];
+    puts("the greatest state");
+    memset(table, 0, sizeof table);
+    length = SAM_TABLE_PLACES;
+    check("  reset", 0, reset(1000, 8192));
+    registers[SAM_PC] = 1024;
+    registers[SAM_SP] = registers[SAM_FBR] = 999;
+    registers[SAM_HALT] = 1;
+    registers[SAM_WRITTEN] = 256;
+    tags[999] = SAM_CH, bits[999] = 127; /* bits 35016 to 35050 */
+    output[255] = 0xFF;                  /* bits 37091 to 37098 */
+    memcpy(saved, header, sizeof header);
+    saved[4377] = 0x80, saved[4380] = 0x0F, saved[4381] = 0xE0;
+    saved[4636] = 0x1F, saved[4637] = 0xE0;
+    check_saved("  save", saved, sizeof saved);
+    remember();
+    static struct machine original;
+    original = before;
+    load_spare(saved, sizeof saved, 8192);
+    check_as_original("  loaded", &original);
+    check_saved("  saved again", saved, sizeof saved);
+    length = 1023;
+    check_not_loaded("  PC above another program's length", saved, sizeof saved, SAM_TABLE_PLACES,
+                     (struct lent){SAM_REGISTERS, 1000, 1000, 8192, 256}, 10);
+}
+
+/* JSR leaves PA 1 and PC 3; the spare controller has another program of so many instructions. */
+static void test_other_programs(void) {
+    static uint8_t saved[SAM_STATE_BYTES];
+    puts("a session loaded under another program");
+    begin("JSR 3 STOP STOP STOP PUSHIMM 1", 4, 9);
+    check("  JSR", 0, step());
+    bits[0] = 5; /* the greatest PA of this program */
+    check("  save", 0, save_with(SAM_REGISTERS, SAM_STATE_BYTES, 1));
+    size_t size = told[0];
+    memcpy(saved, state, sizeof saved);
+    for (uint64_t other = 0; other <= 7; other++) {
+        static const struct lent lent = {SAM_REGISTERS, 4, 4, 9, 256};
+        memset(table, 0, sizeof table);
+        length = other;
+        if (other < 5) {
+            check_not_loaded("  PA or PC above its length", saved, size, SAM_TABLE_PLACES, lent, 10);
+            continue;
+        }
+        load_spare(saved, size, 9);
+        check_cell("  cell 0", 0, SAM_PA, 5);
+        check("  STOP", 0, step());
+        check("  PC", 3, registers[SAM_PC]);
+    }
+}
+
 /* ---- lists and images */
 
 static void test_list(void) {
@@ -2480,6 +2990,14 @@ int main(void) {
     test_told_of_depths();
     test_full_depths();
     test_played_depths();
+    test_carried_trial();
+    test_carried_sessions();
+    test_saved_by_hand();
+    test_changed_states();
+    test_state_lengths();
+    test_announced();
+    test_greatest_state();
+    test_other_programs();
     test_list();
     test_images();
     printf("%u checks, %u failed\n", checks, failed);

@@ -15,7 +15,8 @@
  *    9  step-back with U = 0
  *   10  broken state or table; a kept number above U, or 0 with U above 0, is a broken state, and so is an output above
  *       256 bytes or a written count above its length; at a forget also a used record that is not well formed, or a
- *       kept number other than that of the records in use; at a load also what the image holds
+ *       kept number other than that of the records in use; at a load it is said of what the image holds, and a written
+ *       count above the lent output is 10 too
  *   11  at reset N, H or the output outside the sizes below, or cells and tags of unequal count; at a run a limit above
  *       1,000,000; at a depth list N outside the sizes below
  *   12  WRITECH with a full output; it comes after 7 and before 8
@@ -64,7 +65,7 @@ enum {
     SAM_TABLE_PLACES = 1024,   /* places of a table: its exact length */
     SAM_TEXT_BYTES = 20480,    /* bytes of a listing: its exact length */
     SAM_IMAGE_BYTES = 4866,    /* bytes of a packed image: its exact length */
-    SAM_STATE_BYTES = 4638,    /* bytes of a saved state: its exact length */
+    SAM_STATE_BYTES = 4638,    /* bytes lent to a save: its exact length; a load is handed as many as were told */
     SAM_CELL_LIMIT = 1000,     /* N is 1 to this */
     SAM_HISTORY_LIMIT = 8192,  /* H is 0 to this; H = 0 keeps no history */
     SAM_OUTPUT_LIMIT = 256,    /* bytes of a machine's output are 0 to this; one of 0 bytes is full */
@@ -88,13 +89,15 @@ enum {
     SAM_FORGET_STACK = 512,
     SAM_RUN_STACK = 768,
     SAM_DWELL_STACK = 512,
-    SAM_DEPTHS_STACK = 256
+    SAM_DEPTHS_STACK = 256,
+    SAM_SAVE_STACK = 512,
+    SAM_LOAD_STACK = 512
 };
 
 /* The registers are a lent slice of nine. Registers of another length are a 10 in 10's place, so after 11 at a reset
  * and a run, after 31 at a save and after 67 at a load, and stay as they are. SAM_KEPT is how many steps can be taken
- * back: after a reset or a load the steps accepted less the step-backs accepted and the steps forgotten, and 0 where H
- * is 0. SAM_WRITTEN is how many bytes of the output are written. */
+ * back: since the latest reset or load the steps accepted less the step-backs accepted and the steps forgotten, and 0
+ * where H is 0. SAM_WRITTEN is how many bytes of the output are written. */
 enum { SAM_N, SAM_H_PLACES, SAM_PC, SAM_SP, SAM_FBR, SAM_HALT, SAM_U, SAM_KEPT, SAM_WRITTEN, SAM_REGISTERS };
 
 /* The tag of a cell. A CH is a character code, 0 to 127. */
@@ -185,13 +188,14 @@ uint32_t sam_save(const uint64_t *table, size_t places, uint64_t length, const u
                   const uint64_t *history, size_t h, const uint8_t *output, size_t output_len, uint8_t *image,
                   size_t image_len, uint64_t *told, size_t told_len);
 
-/* Loads a saved state: cells, tags, written output, PC, SP, FBR and HALT are as saved, N is that of the lent cells and
- * of the image, H is the lent history's, U and the kept number are 0, and the history and the output's rest are zeroed.
- * What the lent memory and registers held before is not judged. The table may be any sound one, since the image cannot
- * tell under which program it was saved; only with the same one does the saved session go on. Refused in this order: 41
- * where the image ends before all that its own N and written count announce; 67; 10 for a table or a state that a step
- * would answer with 10; 45. A refused load leaves cells, history and output as they were and sets the registers, where
- * they are nine, to zero. */
+/* Loads a saved state from an image of just the length that was told; all 4,638 bytes of a smaller state are 45. Cells,
+ * tags, written output, PC, SP, FBR and HALT are as saved, N is that of the lent cells and of the image, H is the lent
+ * history's, U and the kept number are 0, and the history and the output's rest are zeroed. What the lent memory and
+ * registers held before is not judged. The table may be any sound one, since the image cannot tell under which program
+ * it was saved; only with the same one does the saved session go on. Refused in this order: 41 where the image ends
+ * before all that its own N and written count announce; 67; 10 for a table or a state that a step would answer with 10;
+ * 45. A refused load leaves cells, history and output as they were and sets the registers, where they are nine, to
+ * zero. */
 uint32_t sam_load(const uint8_t *image, size_t image_len, const uint64_t *table, size_t places, uint64_t length,
                   uint64_t *registers, size_t registers_len, uint32_t *bits, size_t n, uint8_t *tags, size_t tags_len,
                   uint64_t *history, size_t h, uint8_t *output, size_t output_len);

@@ -1,4 +1,4 @@
-"""An interpreter of document 01 with requests a, b and d to j of document 02, written from the documents and their
+"""An interpreter of document 01 with requests a, b and d to k of document 02, written from the documents and their
 settled readings, to compare the proved one with."""
 
 from .console import cell_line, console
@@ -6,6 +6,7 @@ from .depths import NOT_REACHED, check_depths
 from .dwell import dwell
 from .image import pack, unpack
 from .machine import Program, Registers, State, forget, reset, run, sound, step, step_back
+from .saved import load, save
 from .text import assemble, list_program
 
 __all__ = [
@@ -20,9 +21,11 @@ __all__ = [
     "dwell",
     "forget",
     "list_program",
+    "load",
     "pack",
     "reset",
     "run",
+    "save",
     "sound",
     "step",
     "step_back",

@@ -12,12 +12,21 @@ OPERAND_WIDTH = {NO_OPERAND: 0, INTEGER: 32, PATTERN: 32, OFFSET: 11, TARGET: 11
 
 
 class Damaged(Exception):
-    """A refusal of the unpacker: its number."""
+    """A refusal of an image: its number."""
 
 
 def field(value, width):
     """The lowest `width` bits of a value, most significant first, as a string of 0 and 1."""
     return format(value % (1 << width), f"0{width}b") if width else ""
+
+
+def write_fields(fields, image):
+    """How many bytes these fields take from the image's start, with "zeros to a byte"."""
+    bits = "".join(fields)
+    bits += "0" * (-len(bits) % 8)
+    size = len(bits) // 8
+    image[:size] = int(bits, 2).to_bytes(size, "big")
+    return size
 
 
 def pack(table, length, image):
@@ -27,15 +36,11 @@ def pack(table, length, image):
     image[:] = bytes(IMAGE_SIZE)
     if not table_sound(table, length):
         return 10, 0
-    parts = [field(length, COUNT_WIDTH)]
+    fields = [field(length, COUNT_WIDTH)]
     for place in table[:length]:
         code = place >> 32
-        parts.append(field(code, CODE_WIDTH) + field(place % WORD, OPERAND_WIDTH[KINDS[code]]))
-    bits = "".join(parts)
-    bits += "0" * (-len(bits) % 8)  # "zeros to a byte"
-    size = len(bits) // 8
-    image[:size] = int(bits, 2).to_bytes(size, "big")
-    return 0, size
+        fields.append(field(code, CODE_WIDTH) + field(place % WORD, OPERAND_WIDTH[KINDS[code]]))
+    return 0, write_fields(fields, image)
 
 
 class BitReader:

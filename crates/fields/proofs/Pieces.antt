@@ -11,7 +11,7 @@ use lib.Seq.{take-append-le, drop-append-le, drop-append-add, drop-drop, take-ad
 use Rattle.rules.specs.Lists.{part, splice}
 use Rattle.rules.specs.Fields.{field, value, bitsOf}
 use Rattle.rules.proofs.Fields.{field-length, field-split, field-mod, field-join, field-at, value-field, value-append, bitsOf-length, bitsOf-at, bitsOf-set, bitsOf-front}
-use Rattle.rules.proofs.Bits.{Bits, bits-bytes, bits-take, bits-drop, part-most, field-value}
+use Rattle.rules.proofs.Bits.{Bits, bits-bytes, part-most, part-value}
 use Rattle.rules.proofs.Splice.{length-part, part-part, splice-mid, splice-beside, splice-before, splice-within}
 
 -- ---- a byte of a slice: its bits are where the whole has them, and what is written to it too
@@ -132,8 +132,6 @@ pub part-within : (xs : List ℕ) (at j n c : ℕ) → at + (j + n + c) ≤ leng
     → value (part at (j + n + c) (bitsOf xs)) / 2 ^ c % 2 ^ n ≡ value (part (at + j) n (bitsOf xs))
 part-within xs at j n c h =
     let l : List ℕ = bitsOf xs in
-    let m : List ℕ = part at (j + n + c) l in
-    let lm : length m ≡ j + n + c = length-part at (j + n + c) l (omega (arith, bitsOf-length xs)) in
-    let em : field (j + n + c) (value m) ≡ m =
-    ap (λ (k : ℕ). field k (value m)) (sym lm) ∙ field-value m (bits-take (j + n + c) (drop at l) (bits-drop at l (bits-bytes xs))) in
-    sym (value-field n (value m / 2 ^ c)) ∙ ap value (sym (field-at j n c (value m)) ∙ ap (part j n) em ∙ part-part at j (j + n + c) n l (omega arith))
+    let v : ℕ = value (part at (j + n + c) l) in
+    sym (value-field n (v / 2 ^ c))
+    ∙ ap value (sym (field-at j n c v) ∙ ap (part j n) (part-value l (bits-bytes xs) at (j + n + c) (omega (arith, bitsOf-length xs))) ∙ part-part at j (j + n + c) n l (omega arith))

@@ -11,12 +11,12 @@ use Rattle.rules.specs.Lists.{part, splice}
 use Rattle.rules.specs.Fields.{field, value, bitsOf}
 use Rattle.rules.proofs.Bits.{bits-bytes, part-most}
 use Rattle.rules.proofs.Tests.{either, and-left, and-right}
-use Rattle.fields.specs.Within.{inside, written, readAt}
+use Rattle.fields.specs.Within.{inside, putAt, readAt}
 
 module _ (l : List ℕ) (at w : ℕ) where
   -- by the test's answer
-  pub written-told : (v : ℕ) {b : Bool} → inside l at w ≡ b → written l at w v ≡ cond b (splice l at (field w v)) l
-  unfolding written
+  pub written-told : (v : ℕ) {b : Bool} → inside l at w ≡ b → putAt l at w v ≡ cond b (splice l at (field w v)) l
+  unfolding putAt
   written-told v e = ap (λ (b : Bool). cond b (splice l at (field w v)) l) e
 
   pub read-told : {b : Bool} → inside l at w ≡ b → readAt l at w ≡ cond b (value (part at w l)) 0
@@ -30,7 +30,7 @@ module _ (l : List ℕ) (at w : ℕ) where
   is-inside : w ≤ 64 → at + w ≤ length l → inside l at w ≡ true
   is-inside hw h = ap₂ _&&_ (le-leb w 64 hw) (le-leb (at + w) (length l) h)
 
-  pub written-inside : (v : ℕ) → w ≤ 64 → at + w ≤ length l → written l at w v ≡ splice l at (field w v)
+  pub written-inside : (v : ℕ) → w ≤ 64 → at + w ≤ length l → putAt l at w v ≡ splice l at (field w v)
   written-inside v hw h = written-told v (is-inside hw h)
 
   pub read-inside : w ≤ 64 → at + w ≤ length l → readAt l at w ≡ value (part at w l)

@@ -16,13 +16,13 @@ abbrev pub inside : List ℕ → (at w : ℕ) → Bool
 inside l at w = leb w widest && leb (at + w) (length l)
 
 -- the low w bits of v written there, where it is inside; else nothing changes
-unfoldable pub written : List ℕ → (at w v : ℕ) → List ℕ
-written l at w v = cond (inside l at w) (splice l at (field w v)) l
+unfoldable pub putAt : List ℕ → (at w v : ℕ) → List ℕ
+putAt l at w v = cond (inside l at w) (splice l at (field w v)) l
 
 -- the number in it, where it is inside; else 0
 unfoldable pub readAt : List ℕ → (at w : ℕ) → ℕ
 readAt l at w = cond (inside l at w) (value (part at w l)) 0
 
 -- the widest field that is one number of 64 bits together with up to 7 bits before it
-abbrev pub short : ℕ
-short = 57
+abbrev pub widestShort : ℕ
+widestShort = 57

@@ -8,10 +8,10 @@ ghost use Prim.Native.Nat.{_+_, _-_, _*_, _^_, _<_, _≤_};
 ghost use lib.ListN.{length};
 ghost use Rattle.rules.specs.Lists.{part, splice};
 ghost use Rattle.rules.specs.Fields.{field, value, bitsOf};
-ghost use Rattle.fields.specs.Within.{widest, short};
+ghost use Rattle.fields.specs.Within.{widest, widestShort};
 
 // The widest short field: 7 bits may stand before it.
-const SHORT: usize = 57;
+const WIDEST_SHORT: usize = 57;
 
 // The bits that a wider field has in its second part, and how many values these have.
 const LOW: usize = 32;
@@ -28,7 +28,7 @@ fn power(k: usize) -> u64
 
 // The low `width` bits of v between bits that stay: those of the first byte before them, and those of the last byte after them.
 fn covering(first: u8, before: usize, width: usize, v: u64, after: usize, last: u8) -> u64
-    requires { ⌜ (before < 8) × (width ≤ short) × (after < 8) × (before + width + after ≤ widest) ⌝ }
+    requires { ⌜ (before < 8) × (width ≤ widestShort) × (after < 8) × (before + width + after ≤ widest) ⌝ }
     ensures { λ r. ⌜ field (before + width + after) r ≡ part 0 before (field 8 first) ++ (field width v ++ part (8 - after) after (field 8 last)) ⌝ }
 {
     let head = first as u64 / power(8 - before);
@@ -40,7 +40,7 @@ fn covering(first: u8, before: usize, width: usize, v: u64, after: usize, last: 
 
 // Writes the low `width` bits of v.
 fn put_short(out: &mut [u8], from: usize, start: usize, width: usize, v: u64)
-    requires { ⌜ (start < 8) × (width ≤ short) × (from * 8 + start + width ≤ length (now out) * 8) ⌝ }
+    requires { ⌜ (start < 8) × (width ≤ widestShort) × (from * 8 + start + width ≤ length (now out) * 8) ⌝ }
     ensures { λ _. ⌜ bitsOf (now (out .exit)) ≡ splice (bitsOf (now (out .entry))) (from * 8 + start) (field width v) ⌝ }
 {
     if width == 0 {
@@ -55,7 +55,7 @@ fn put_short(out: &mut [u8], from: usize, start: usize, width: usize, v: u64)
 
 // The number in the `width` bits.
 fn get_short(image: &[u8], from: usize, start: usize, width: usize) -> u64
-    requires { ⌜ (start < 8) × (width ≤ short) × (from * 8 + start + width ≤ length (now image) * 8) ⌝ }
+    requires { ⌜ (start < 8) × (width ≤ widestShort) × (from * 8 + start + width ≤ length (now image) * 8) ⌝ }
     ensures { λ r. ⌜ r ≡ value (part (from * 8 + start) width (bitsOf (now (image .entry)))) ⌝ }
 {
     let bytes = (start + width + 7) / 8;
@@ -68,7 +68,7 @@ pub(crate) fn put_inside(out: &mut [u8], from: usize, start: usize, width: usize
     requires { ⌜ (start < 8) × (width ≤ widest) × (from * 8 + start + width ≤ length (now out) * 8) ⌝ }
     ensures { λ _. ⌜ bitsOf (now (out .exit)) ≡ splice (bitsOf (now (out .entry))) (from * 8 + start) (field width v) ⌝ }
 {
-    if width <= SHORT {
+    if width <= WIDEST_SHORT {
         put_short(out, from, start, width, v);
         return;
     }
@@ -83,7 +83,7 @@ pub(crate) fn get_inside(image: &[u8], from: usize, start: usize, width: usize) 
     requires { ⌜ (start < 8) × (width ≤ widest) × (from * 8 + start + width ≤ length (now image) * 8) ⌝ }
     ensures { λ r. ⌜ r ≡ value (part (from * 8 + start) width (bitsOf (now (image .entry)))) ⌝ }
 {
-    if width <= SHORT {
+    if width <= WIDEST_SHORT {
         return get_short(image, from, start, width);
     }
     let high = width - LOW;

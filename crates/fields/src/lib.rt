@@ -8,7 +8,7 @@ ghost use Prim.Native.Nat.{_+_, _*_};
 ghost use lib.Dec.{leb};
 ghost use lib.ListN.{length, drop};
 ghost use Rattle.rules.specs.Fields.{bitsOf, padded};
-ghost use Rattle.fields.specs.Within.{inside, written, readAt};
+ghost use Rattle.fields.specs.Within.{inside, putAt, readAt};
 
 // The widest field: one number of 64 bits.
 const WIDEST: usize = 64;
@@ -32,7 +32,7 @@ fn is_inside(image: &[u8], at: usize, width: usize) -> bool
 
 // Writes the low `width` bits of v at bit `at`, where they are inside.
 pub fn put(out: &mut [u8], at: usize, width: usize, v: u64)
-    ensures { λ _. ⌜ bitsOf (now (out .exit)) ≡ written (bitsOf (now (out .entry))) at width v ⌝ }
+    ensures { λ _. ⌜ bitsOf (now (out .exit)) ≡ putAt (bitsOf (now (out .entry))) at width v ⌝ }
 {
     if is_inside(out, at, width) {
         inside::put_inside(out, at / 8, at % 8, width, v);

@@ -1,7 +1,7 @@
 -- Request k: a state that is saved, and loaded again under the same program into slices of its N with an output of enough room, is what it was, but for its history.
 -- Assumes nothing.
 use Prim.Native.Nat.{ℕ, zero, suc, _+_, _-_, _*_, _%_, _^_, _≤_, _<_, zero-le}
-use mathlib.Core.Path.{_≡_, refl, sym, ap, ap₂, _∙_, subst}
+use mathlib.Core.Path.{_≡_, refl, sym, ap, ap₂, _∙_, subst, subst₂}
 use mathlib.Core.Bool.{true}
 use mathlib.Core.List.{List, [], _∷_, _++_, append-assoc}
 use native.Mathlib.Nat.{mod-eq-of-lt}
@@ -10,25 +10,24 @@ use lib.Dec.{lit≤}
 use lib.ListN.{length, getD, take, drop, replicate, length-append, length-drop}
 use lib.Pow.{pow-pos}
 use lib.Seq.{drop-at, drop-drop, length-take-le, take-append-le, drop-append-le}
-use borrow.Author.Tests.{le-leb, eq-eqb}
-use Rattle.rules.specs.Lists.{every}
 use Rattle.rules.specs.Sizes.{stateSize}
 use Rattle.rules.specs.Fields.{value, bitsOf, bytesOf, packedTo, bytesFor, padded, side, total, fieldIn}
 use Rattle.rules.specs.Cells.{Cells}
 use Rattle.rules.specs.Table.{Program}
 use Rattle.rules.specs.State.{Memory, registersHolding, sound}
-use Rattle.rules.specs.SavedState.{headLayout, headOf, headWidth, savedLayout, savedWidth, cellsSaved, stateBits, Saving, save, registersIn, columnIn, cellsIn, outputFrom, announced, bytesIn, Loading, loaded, completeTests, lentSizes, load}
+use Rattle.rules.specs.SavedState.{headLayout, headOf, headWidth, savedCellLayout, savedCellWidth, cellsSaved, stateBits, Saving, save, registersIn, columnIn, cellsIn, outputFrom, announced, bytesIn, toldCells, toldBytes, Loading, loaded, load}
 use Rattle.rules.specs.declared.Registers.{Registers}
 use Rattle.rules.specs.declared.Saved.the-variants.{Bytes}
 use Rattle.rules.specs.declared.Resumed.the-variants.{Going}
 use Rattle.rules.proofs.Table.{table-short}
+use Rattle.rules.proofs.Fields.{bitsOf-length}
 use Rattle.rules.proofs.Layouts.{side-length, side-read}
 use Rattle.rules.proofs.Bits.{bytes-back}
-use Rattle.rules.proofs.SavedState.{isComplete, isLent, isSound, isPadded, save-done, load-done, cells-saved-length, state-bits, state-length, state-fits}
+use Rattle.rules.proofs.SavedState.{entryOf, isSound, isPadded, facts-entry, save-done, load-done, cells-saved-length, state-bits, state-length, state-fits}
 use Rattle.rules.proofs.Fair.{Sound}
 use Rattle.rules.proofs.FairEffects.{sound-facts}
-use Rattle.promises.specs.Series.{resumed}
-use Rattle.promises.specs.Carried.{Typed, TakesIn, toldImage, carriedTo, CarriedOver}
+use Rattle.promises.specs.Series.{leftByLoad}
+use Rattle.promises.specs.Carried.{Typed, RoomFor, toldImage, carriedTo, CarriedOver}
 use Rattle.promises.proofs.Demand3Good.{sound-beside}
 use Rattle.promises.proofs.Padding.{paddingOf, padding-padded, told-length, told-bits}
 
@@ -50,21 +49,21 @@ take-typed w (suc n) (x ∷ l) h zero = h zero
 take-typed w (suc n) (x ∷ l) h (suc k) = take-typed w n l (λ j. h (suc j)) k
 
 -- a column of the cells: the tags, or the bits
-column-back : (i : ℕ) → total (take i savedLayout) + getD savedLayout i 0 ≤ savedWidth → (ts bs cs rest : List ℕ) → length ts ≡ length bs → length ts ≡ length cs
-    → ((k : ℕ) → getD (getD ts k 0 ∷ getD bs k 0 ∷ []) i 0 % 2 ^ getD savedLayout i 0 ≡ getD cs k 0) → columnIn i (length cs) (cellsSaved ts bs ++ rest) ≡ cs
+column-back : (i : ℕ) → total (take i savedCellLayout) + getD savedCellLayout i 0 ≤ savedCellWidth → (ts bs cs rest : List ℕ) → length ts ≡ length bs → length ts ≡ length cs
+    → ((k : ℕ) → getD (getD ts k 0 ∷ getD bs k 0 ∷ []) i 0 % 2 ^ getD savedCellLayout i 0 ≡ getD cs k 0) → columnIn i (length cs) (cellsSaved ts bs ++ rest) ≡ cs
 unfolding columnIn
 column-back i low [] bs [] rest e f same = refl
 column-back i low [] bs (c ∷ cs) rest e f same = absurd (let z : ⊥ = omega (arith, f) in z)
 column-back i low (t ∷ ts) [] cs rest e f same = absurd (let z : ⊥ = omega (arith, e) in z)
 column-back i low (t ∷ ts) (b ∷ bs) [] rest e f same = absurd (let z : ⊥ = omega (arith, f) in z)
 column-back i low (t ∷ ts) (b ∷ bs) (c ∷ cs) rest e f same =
-    let first : List ℕ = side savedLayout (t ∷ b ∷ []) in
+    let first : List ℕ = side savedCellLayout (t ∷ b ∷ []) in
     let others : List ℕ = cellsSaved ts bs ++ rest in
     let whole : (first ++ cellsSaved ts bs) ++ rest ≡ first ++ others = append-assoc first (cellsSaved ts bs) rest in
     ap₂ (λ (x : ℕ) (l : List ℕ). x ∷ l)
-    (ap (fieldIn savedLayout i) whole ∙ field-back savedLayout (t ∷ b ∷ []) others i low ∙ same zero)
-    (ap (λ (l : List ℕ). columnIn i (length cs) (drop savedWidth l)) whole
-    ∙ ap (columnIn i (length cs)) (drop-at first others savedWidth (side-length savedLayout (t ∷ b ∷ [])))
+    (ap (fieldIn savedCellLayout i) whole ∙ field-back savedCellLayout (t ∷ b ∷ []) others i low ∙ same zero)
+    (ap (λ (l : List ℕ). columnIn i (length cs) (drop savedCellWidth l)) whole
+    ∙ ap (columnIn i (length cs)) (drop-at first others savedCellWidth (side-length savedCellLayout (t ∷ b ∷ [])))
     ∙ column-back i low ts bs cs rest (omega (arith, e)) (omega (arith, f)) (λ k. same (suc k)))
 
 -- ---- of a sound state
@@ -96,14 +95,14 @@ module _ (p : Program) (r : Registers) (m : Memory) (s : Sound p r m) (t : Typed
   behind-head : drop headWidth bits ≡ body ++ (bitsOf bytes ++ pad)
   behind-head = ap (drop headWidth) parts ∙ drop-at head (body ++ (bitsOf bytes ++ pad)) headWidth (side-length headLayout (headOf r))
 
-  behind-body : drop (outputFrom r) bits ≡ bitsOf bytes ++ pad
+  behind-body : drop (outputFrom (r .n)) bits ≡ bitsOf bytes ++ pad
   behind-body =
-      let l : length body ≡ r .n * savedWidth =
-      cells-saved-length (m .cells .tags) (m .cells .bits) (s .tags ∙ sym (s .bits)) ∙ ap (λ (k : ℕ). k * savedWidth) (s .tags) in
-      sym (drop-drop (r .n * savedWidth) headWidth bits) ∙ ap (drop (r .n * savedWidth)) behind-head ∙ drop-at body (bitsOf bytes ++ pad) (r .n * savedWidth) l
+      let l : length body ≡ r .n * savedCellWidth =
+      cells-saved-length (m .cells .tags) (m .cells .bits) (s .tags ∙ sym (s .bits)) ∙ ap (λ (k : ℕ). k * savedCellWidth) (s .tags) in
+      sym (drop-drop (r .n * savedCellWidth) headWidth bits) ∙ ap (drop (r .n * savedCellWidth)) behind-head ∙ drop-at body (bitsOf bytes ++ pad) (r .n * savedCellWidth) l
 
-  behind-all : drop (announced r) bits ≡ pad
-  behind-all = drop-at saved pad (announced r) (state-length r (m .cells) (m .output) (s .tags) (s .bits) (s .written))
+  behind-all : drop (announced (r .n) (r .written)) bits ≡ pad
+  behind-all = drop-at saved pad (announced (r .n) (r .written)) (state-length r (m .cells) (m .output) (s .tags) (s .bits) (s .written))
 
   -- its registers: each is below what its field has room for
   head-back : (i : ℕ) → total (take i headLayout) + getD headLayout i 0 ≤ headWidth → getD (headOf r) i 0 < 2 ^ getD headLayout i 0
@@ -143,7 +142,7 @@ module _ (p : Program) (r : Registers) (m : Memory) (s : Sound p r m) (t : Typed
       ∙ bytes-back bytes pad (take-typed 8 (r .written) (m .output) (t .bytes))
 
   -- ---- loaded again
-  module _ (image : List ℕ) (e : bitsOf image ≡ bits) (lent : Memory) (takes : TakesIn r lent) where
+  module _ (image : List ℕ) (e : bitsOf image ≡ bits) (lent : Memory) (takes : RoomFor r lent) where
     -- the registers that it leaves
     abbrev again : Registers
     again = registersHolding (length (lent .history)) 0 0 r
@@ -151,18 +150,21 @@ module _ (p : Program) (r : Registers) (m : Memory) (s : Sound p r m) (t : Typed
     again-is : registersIn (length (lent .history)) (bitsOf image) ≡ again
     again-is = ap (registersIn (length (lent .history))) e ∙ registers-back (length (lent .history))
 
-    complete : isComplete image p lent ≡ true
-    complete =
-        let l : length bits ≡ announced r + length pad = length-append saved pad ∙ ap (λ (k : ℕ). k + length pad) (state-length r (m .cells) (m .output) (s .tags) (s .bits) (s .written)) in
-        let tests : every (completeTests again (length bits)) ≡ true =
-        simp (le-leb headWidth (length bits) (omega (arith, l)), le-leb (announced r) (length bits) (omega (arith, l))) in
-        ap₂ (λ (q : Registers) (l : List ℕ). every (completeTests q (length l))) again-is e ∙ tests
-
-    fits : isLent image p lent ≡ true
-    fits =
-        let tests : every (lentSizes (r .n) (length (lent .cells .bits)) (length (lent .cells .tags)) (length (lent .history)) (length (lent .output))) ≡ true =
-        simp (eq-eqb _ _ (takes .bits), eq-eqb _ _ (takes .tags), le-leb _ _ (takes .history), le-leb _ _ (takes .output)) in
-        ap (λ (q : Registers). every (lentSizes (q .n) (length (lent .cells .bits)) (length (lent .cells .tags)) (length (lent .history)) (length (lent .output)))) again-is ∙ tests
+    enters : entryOf image p lent ≡ Going
+    unfolding registersIn
+    enters =
+        let n : toldCells (bitsOf image) ≡ r .n = ap (λ (q : Registers). q .n) again-is in
+        let w : toldBytes (bitsOf image) ≡ r .written = ap (λ (q : Registers). q .written) again-is in
+        let whole : announced (r .n) (r .written) ≤ length image * 8 =
+        omega (arith, bitsOf-length image, ap length e, length-append saved pad, state-length r (m .cells) (m .output) (s .tags) (s .bits) (s .written)) in
+        facts-entry image (length (lent .cells .bits)) (length (lent .cells .tags)) (length (lent .history)) (length (lent .output))
+        (record {
+          whole = subst₂ (λ (a b : ℕ). announced a b ≤ length image * 8) (sym n) (sym w) whole;
+          cells = takes .bits ∙ sym n;
+          tagged = takes .tags ∙ sym n;
+          short = takes .history;
+          shown = takes .output;
+        })
 
     is-judged : isSound image p lent ≡ true
     is-judged =
@@ -173,13 +175,13 @@ module _ (p : Program) (r : Registers) (m : Memory) (s : Sound p r m) (t : Typed
 
     is-padded : isPadded image p lent ≡ true
     is-padded =
-        ap₂ (λ (q : Registers) (l : List ℕ). padded (drop (announced q) l)) again-is e
+        ap₂ (λ (q : Registers) (l : List ℕ). padded (drop (announced (q .n) (q .written)) l)) again-is e
         ∙ ap padded behind-all ∙ padding-padded saved
 
-    pub loaded-back : load image p lent ≡ record { answer = record { resumed = Going; registers = carriedTo lent r m .registers }; memory = carriedTo lent r m .memory }
+    loaded-back : load image p lent ≡ record { answer = record { resumed = Going; registers = carriedTo lent r m .registers }; memory = carriedTo lent r m .memory }
     unfolding bytesIn
     loaded-back =
-        load-done image p lent complete fits is-judged is-padded
+        load-done image p lent enters is-judged is-padded
         ∙ ap₂ (λ (q : Registers) (l : List ℕ). loaded q l lent) again-is e
         ∙ ap₂ {C = Loading} (λ (c : Cells) (o : List ℕ). record {
           answer = record { resumed = Going; registers = again };
@@ -193,7 +195,7 @@ module _ (p : Program) (r : Registers) (m : Memory) (s : Sound p r m) (t : Typed
 
 -- ---- saved, and loaded again
 pub carried-over : (p : Program) (r : Registers) (m : Memory) (image : List ℕ) (lent : Memory)
-    → sound p r m ≡ true → Typed m → length image ≡ stateSize → TakesIn r lent → CarriedOver p r m image lent
+    → sound p r m ≡ true → Typed m → length image ≡ stateSize → RoomFor r lent → CarriedOver p r m image lent
 carried-over p r m image lent h t long takes =
     let s : Sound p r m = sound-facts p r m h in
     let saved : List ℕ = stateBits r (m .cells) (m .output) in
@@ -207,5 +209,5 @@ carried-over p r m image lent h t long takes =
       saves = ap (λ (o : Saving). o .answer) done ∙ ap Bytes (sym l);
       fits = subst (λ (n : ℕ). n ≤ stateSize) (sym l) fits;
       loads = ap (λ (o : Loading). o .answer .resumed) back;
-      keeps = ap resumed back;
+      keeps = ap leftByLoad back;
     }

@@ -1,5 +1,5 @@
--- Demand 3, as request i has it: `demand3`. For every program, every origin (a reset that is accepted, of any lent memory, of any N and H, H = 0 among them), and
--- every series of steps, limited runs, step-backs and forgets, refused ones among them. What it says is specs/Series.antt, over the definitions that the
+-- Demand 3, as requests i and k have it: `demand3`. For every program, every origin (a reset or a load that is accepted, of any lent memory, of any N and H, H = 0 among
+-- them), and every series of steps, limited runs, step-backs and forgets, refused ones among them. What it says is specs/Series.antt, over the definitions that the
 -- contracts of the calls cite, and the fresh run of specs/Unbounded.antt. Assumes nothing.
 use Prim.Native.Nat.{ℕ, _+_, _-_, _<_}
 use mathlib.Core.Path.{_≡_, refl, sym, ap, ap₂, _∙_, subst}

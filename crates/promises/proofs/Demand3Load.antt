@@ -9,36 +9,33 @@ use native.Mathlib.Omega.{arith}
 use lib.ListN.{length, getD, take, drop, replicate, length-append, length-replicate}
 use lib.Pow.{pow-pos}
 use lib.Seq.{drop-at}
-use borrow.Author.Tests.{leb-true}
 use Rattle.rules.specs.Lists.{every}
-use Rattle.rules.specs.Sizes.{maxHistory}
 use Rattle.rules.specs.Fields.{bitsOf, total}
 use Rattle.rules.specs.Cells.{Cells}
 use Rattle.rules.specs.Table.{Program}
 use Rattle.rules.specs.State.{Memory, soundCells, rangeTests, sound}
-use Rattle.rules.specs.SavedState.{headWidth, savedLayout, savedWidth, registersIn, columnIn, cellsIn, outputFrom, bytesIn, Loading, memoryIn, loaded, lentSizes, load}
+use Rattle.rules.specs.SavedState.{headWidth, savedCellLayout, savedCellWidth, registersIn, columnIn, cellsIn, outputFrom, bytesIn, Loading, memoryIn, loaded, entry, load}
 use Rattle.rules.specs.declared.Registers.{Registers}
 use Rattle.rules.specs.declared.Resumed.the-variants.{Going}
-use Rattle.rules.proofs.Tests.{every-at}
 use Rattle.rules.proofs.Bits.{Bits, bits-drop, bits-bytes, part-most, bytes-length}
-use Rattle.rules.proofs.SavedState.{isLent, isSound, load-done, Accepted, load-accepted}
+use Rattle.rules.proofs.SavedState.{entry-facts, isSound, load-done, AcceptedLoad, load-accepted}
 use Rattle.rules.proofs.Fair.{Sound}
 use Rattle.rules.proofs.FairEffects.{sound-facts}
-use Rattle.promises.specs.Series.{State, plain, resumed, SameSizes, fresh}
+use Rattle.promises.specs.Series.{State, plain, leftByLoad, SameSizes, fresh}
 use Rattle.promises.proofs.Demand3Good.{Good, sound-beside}
 use Rattle.promises.proofs.Demand3Held.{held, Begins}
 
 -- ---- what an image holds
 
 -- each number of a column of w bits
-column-most : (i n w : ℕ) (l : List ℕ) → Bits l → w ≡ getD savedLayout i 0 → (k : ℕ) → getD (columnIn i n l) k 0 < 2 ^ w
+column-most : (i n w : ℕ) (l : List ℕ) → Bits l → w ≡ getD savedCellLayout i 0 → (k : ℕ) → getD (columnIn i n l) k 0 < 2 ^ w
 unfolding columnIn
 column-most i zero w l x e k = pow-pos w
-column-most i (suc n) w l x e zero = rw e (part-most l x (total (take i savedLayout)) (getD savedLayout i 0))
-column-most i (suc n) w l x e (suc k) = column-most i n w (drop savedWidth l) (bits-drop savedWidth l x) e k
+column-most i (suc n) w l x e zero = rw e (part-most l x (total (take i savedCellLayout)) (getD savedCellLayout i 0))
+column-most i (suc n) w l x e (suc k) = column-most i n w (drop savedCellWidth l) (bits-drop savedCellWidth l x) e k
 
 -- ---- what it leaves
-module _ (image : List ℕ) (p : Program) (m : Memory) (a : Accepted image p m) where
+module _ (image : List ℕ) (p : Program) (m : Memory) (a : AcceptedLoad image p m) where
   abbrev bits : List ℕ
   bits = bitsOf image
 
@@ -51,7 +48,7 @@ module _ (image : List ℕ) (p : Program) (m : Memory) (a : Accepted image p m) 
 
   bytes-in : length (bytesIn r bits) ≡ r .written
   unfolding bytesIn
-  bytes-in = bytes-length (r .written) (drop (outputFrom r) bits)
+  bytes-in = bytes-length (r .written) (drop (outputFrom (r .n)) bits)
 
   output-long : length (memoryIn r bits m .output) ≡ length (m .output)
   output-long =
@@ -60,7 +57,7 @@ module _ (image : List ℕ) (p : Program) (m : Memory) (a : Accepted image p m) 
       ∙ omega (arith, judged-sound .written)
 
   -- the machine that it leaves, without its history, is in a good state
-  good-loaded : Good p (plain (fresh (resumed (loaded r bits m))))
+  good-loaded : Good p (plain (fresh (leftByLoad (loaded r bits m))))
   good-loaded =
       let s = judged-sound in
       record {
@@ -87,8 +84,8 @@ module _ (image : List ℕ) (p : Program) (m : Memory) (a : Accepted image p m) 
 
 -- beside one of the same sizes but for the history, it holds no record
 held-loaded : (bits : List ℕ) (m m′ : Memory) → SameSizes m m′
-    → resumed (loaded (registersIn (length (m .history)) bits) bits m)
-    ≡ held (length (m .history)) [] (fresh (resumed (loaded (registersIn (length (m′ .history)) bits) bits m′)))
+    → leftByLoad (loaded (registersIn (length (m .history)) bits) bits m)
+    ≡ held (length (m .history)) [] (fresh (leftByLoad (loaded (registersIn (length (m′ .history)) bits) bits m′)))
 unfolding registersIn bytesIn
 held-loaded bits m m′ same =
     let r : Registers = registersIn (length (m .history)) bits in
@@ -99,20 +96,20 @@ held-loaded bits m m′ same =
 
 -- so it is where a series begins
 pub load-begins : (image : List ℕ) (p : Program) (m m′ : Memory) → load image p m .answer .resumed ≡ Going → load image p m′ .answer .resumed ≡ Going → SameSizes m m′
-    → Begins p (resumed (load image p m)) (fresh (resumed (load image p m′)))
+    → Begins p (leftByLoad (load image p m)) (fresh (leftByLoad (load image p m′)))
 unfolding registersIn
 load-begins image p m m′ going going′ same =
-    let a : Accepted image p m = load-accepted image p m going in
-    let b : Accepted image p m′ = load-accepted image p m′ going′ in
+    let a : AcceptedLoad image p m = load-accepted image p m going in
+    let b : AcceptedLoad image p m′ = load-accepted image p m′ going′ in
     rw (a .leaves, b .leaves)
     (record {
-      short = leb-true (length (m .history)) maxHistory (every-at (lentSizes _ (length (m .cells .bits)) (length (m .cells .tags)) (length (m .history)) (length (m .output))) 2 (a .fits));
+      short = entry-facts image (length (m .cells .bits)) (length (m .cells .tags)) (length (m .history)) (length (m .output)) (a .enters) .short;
       holds = held-loaded (bitsOf image) m m′ same;
       none = refl;
       good = good-loaded image p m′ b;
     })
 
--- ---- what is answered and left hangs on the image, the program and the sizes of the lent memory alone
+-- ---- of an accepted load, what is answered and left hangs on the image, the program and the sizes of the lent memory alone
 
 sound-sized : (p : Program) (r : Registers) (c : Cells) (h h′ o o′ : List ℕ) → length h ≡ length h′ → length o ≡ length o′
     → sound p r (record { cells = c; history = h; output = o }) ≡ sound p r (record { cells = c; history = h′; output = o′ })
@@ -123,10 +120,11 @@ sound-sized p r c h h′ o o′ e f =
 pub load-sized : (image : List ℕ) (p : Program) (m m′ : Memory) → load image p m .answer .resumed ≡ Going → SameSizes m m′ → length (m .history) ≡ length (m′ .history)
     → load image p m ≡ load image p m′
 load-sized image p m m′ going same history =
-    let a : Accepted image p m = load-accepted image p m going in
+    let a : AcceptedLoad image p m = load-accepted image p m going in
     let bits : List ℕ = bitsOf image in
     let r : ℕ → Registers = λ h. registersIn h bits in
-    let lent : isLent image p m′ ≡ true = rw (sym (same .bits), sym (same .tags), sym history, sym (same .output)) (a .fits) in
+    let enters : entry image (length (m′ .cells .bits)) (length (m′ .cells .tags)) (length (m′ .history)) (length (m′ .output)) ≡ Going =
+    rw (sym (same .bits), sym (same .tags), sym history, sym (same .output)) (a .enters) in
     let judged : isSound image p m′ ≡ true =
     sym (ap (λ (h : ℕ). sound p (r h) (record { cells = cellsIn (r h .n) bits; history = m .history; output = m .output })) history
     ∙ sound-sized p (r (length (m′ .history))) (cellsIn (r (length (m′ .history)) .n) bits) (m .history) (m′ .history) (m .output) (m′ .output) history (same .output))
@@ -136,4 +134,4 @@ load-sized image p m m′ going same history =
       answer = record { resumed = Going; registers = r h };
       memory = record { cells = cellsIn (r h .n) bits; history = replicate h 0; output = bytesIn (r h) bits ++ replicate (o - r h .written) 0 };
     }) history (same .output)
-    ∙ sym (load-done image p m′ (rw (sym history) (a .complete)) lent judged (rw (sym history) (a .padding)))
+    ∙ sym (load-done image p m′ enters judged (rw (sym history) (a .padding)))

@@ -56,6 +56,10 @@ reset-ready p m sizes table = rw (sizes, table) refl
 
 -- ---- what it leaves
 
+-- every memory is of its own sizes
+pub own-sizes : (m : Memory) → SameSizes m m
+own-sizes m = record { bits = refl; tags = refl; output = refl }
+
 -- what it leaves hangs on the sizes of the lent memory alone
 begun-sized : (m m′ : Memory) → SameSizes m m′ → length (m .history) ≡ length (m′ .history) → begun m ≡ begun m′
 begun-sized m m′ same history = rw (same .bits, same .tags, history, same .output)

@@ -1,15 +1,15 @@
 -- Request k: a session that is saved, and loaded again under the same program beside an output of the same length, goes on as the first does until one of them has no
 -- room in its history. Assumes nothing.
-use Prim.Native.Nat.{ℕ, zero, suc, _-_, _^_, _<_, zero-le}
+use Prim.Native.Nat.{ℕ, zero, suc, _-_, _<_, zero-le}
 use mathlib.Core.Path.{_≡_, refl, sym, ap, _∙_, subst}
 use mathlib.Core.Bool.{Bool, true}
 use mathlib.Core.List.{List, _++_}
 use native.Mathlib.Omega.{arith}
-use lib.ListN.{length, getD, take, replicate, length-replicate, take-append-drop}
+use lib.ListN.{length, take, replicate, length-replicate, take-append-drop}
 use Rattle.rules.specs.Sizes.{stateSize}
 use Rattle.rules.specs.Table.{Program}
 use Rattle.rules.specs.State.{Memory, sound}
-use Rattle.rules.specs.Numbers.{machineNumber, numberOfStep, registersAfter}
+use Rattle.rules.specs.Numbers.{numberOfStep, registersAfter}
 use Rattle.rules.specs.Commit.{roomFor}
 use Rattle.rules.specs.Decide.{demand}
 use Rattle.rules.specs.Step.{Stepped, judged, inHistory, carried, plainStep}
@@ -25,9 +25,9 @@ use Rattle.rules.proofs.Fair.{Sound}
 use Rattle.rules.proofs.FairEffects.{sound-facts}
 use Rattle.rules.proofs.Sound.{step-plain, sound-judged}
 use Rattle.promises.specs.Unbounded.{Unbounded, decided}
-use Rattle.promises.specs.Series.{Request, State, Session, stateOf, series, begin, afresh, resumed, fresh, Origin}
+use Rattle.promises.specs.Series.{Request, State, Session, stateOf, series, begin, afresh, leftByLoad, fresh, Origin}
 use Rattle.promises.specs.Agrees.{Agrees}
-use Rattle.promises.specs.Carried.{Typed, TakesIn, toldImage, carriedTo, Unwritten, RoomAfter, SameShown, GoesOn}
+use Rattle.promises.specs.Carried.{Typed, RoomFor, toldImage, carriedTo, Unwritten, NotEight, RoomAfter, SameShown, GoesOn}
 use Rattle.promises.proofs.Runs.{steps-end}
 use Rattle.promises.proofs.Agrees.{agrees}
 use Rattle.promises.proofs.Demand3Good.{Good, sound-beside}
@@ -62,10 +62,6 @@ module _ (p : Program) where
     other : SoundAt t
     same : SameShown s t
 
-  -- it is not 8
-  abbrev Roomy : Stepped → Type 0
-  Roomy a = numberOfStep (a .answer) ≡ machineNumber HistoryFull → ⊥
-
   -- what their next steps give
   record Alongside (s t : State) : Type 0 where
     number : numberOfStep (stepOf p s .answer) ≡ numberOfStep (stepOf p t .answer)
@@ -83,7 +79,7 @@ module _ (p : Program) where
     alike-other = agrees p x t (w .other) (record { registers = sym (w .same .registers); cells = sym (w .same .cells); output = sym (w .same .output) })
 
     -- where it is done, it is refused for want of room alone
-    done-by : (u : State) → Agrees p x u → (e : Effect) → decided p x ≡ Does e → Roomy (stepOf p u) → stepOf p u ≡ carried (u .registers) (u .memory) (Does e)
+    done-by : (u : State) → Agrees p x u → (e : Effect) → decided p x ≡ Does e → NotEight (stepOf p u .answer) → stepOf p u ≡ carried (u .registers) (u .memory) (Does e)
     done-by u g e q room =
         by-test (roomFor (u .registers) e)
         (λ b. decides b)
@@ -94,7 +90,7 @@ module _ (p : Program) where
             g .steps ∙ ap (λ (d : Decision). carried (u .registers) (u .memory) (inHistory (u .registers) d)) q
             ∙ ap (λ (c : Bool). carried (u .registers) (u .memory) (demand c HistoryFull (Does e))) f
 
-    alongside : Roomy (stepOf p s) → Roomy (stepOf p t) → Alongside s t
+    alongside : NotEight (stepOf p s .answer) → NotEight (stepOf p t .answer) → Alongside s t
     alongside rooms roomt = go (decided p x) refl
       where
         both : (a b : Stepped) → stepOf p s ≡ a → stepOf p t ≡ b → numberOfStep (a .answer) ≡ numberOfStep (b .answer) → SameShown (after s a) (after t b) → Alongside s t
@@ -117,7 +113,7 @@ module _ (p : Program) where
             refl (w .same)
 
     -- and where they stand after them
-    next : Roomy (stepOf p s) → Roomy (stepOf p t) → Twins (after s (stepOf p s)) (after t (stepOf p t))
+    next : NotEight (stepOf p s .answer) → NotEight (stepOf p t .answer) → Twins (after s (stepOf p s)) (after t (stepOf p t))
     next rooms roomt =
         record { one = sound-after s (w .one); other = sound-after t (w .other); same = alongside rooms roomt .same }
 
@@ -141,8 +137,8 @@ module _ (p : Program) where
 
 -- ---- a state that is saved, and the one that its image is loaded as
 pub goes-on : (p : Program) (r : Registers) (m : Memory) (image : List ℕ) (lent : Memory) → sound p r m ≡ true → Typed m → Unwritten r m → length image ≡ stateSize
-    → TakesIn r lent → length (lent .output) ≡ length (m .output)
-    → GoesOn p (record { registers = r; memory = m }) (resumed (load (toldImage (save p r m image)) p lent))
+    → RoomFor r lent → length (lent .output) ≡ length (m .output)
+    → GoesOn p (record { registers = r; memory = m }) (leftByLoad (load (toldImage (save p r m image)) p lent))
 goes-on p r m image lent h t unwritten long takes same =
     let s : Sound p r m = sound-facts p r m h in
     let here : State = record { registers = r; memory = m } in
@@ -167,10 +163,10 @@ goes-on p r m image lent h t unwritten long takes same =
 -- so every session goes on that began at a reset or a load, whatever was asked since
 pub session-goes-on : (p : Program) (o : State) (x : Unbounded) → Origin p o x → (qs : List Request) (image : List ℕ) (lent : Memory)
     → let s : Session = series p qs (begin o) in
-    ((k : ℕ) → getD (s .memory .output) k 0 < 2 ^ 8) → length image ≡ stateSize → TakesIn (s .registers) lent → length (lent .output) ≡ length (s .memory .output)
-    → GoesOn p (stateOf s) (resumed (load (toldImage (save p (s .registers) (s .memory) image)) p lent))
-session-goes-on p o x origin qs image lent bytes long takes same =
+    Typed (s .memory) → length image ≡ stateSize → RoomFor (s .registers) lent → length (lent .output) ≡ length (s .memory .output)
+    → GoesOn p (stateOf s) (leftByLoad (load (toldImage (save p (s .registers) (s .memory) image)) p lent))
+session-goes-on p o x origin qs image lent typed long takes same =
     let begins : Begins p o x = origin-begins p o x origin in
     let s : Session = series p qs (begin o) in
     let good : Good p (stateOf s) = good-kept p o x begins s (kept-series p o x begins qs) in
-    goes-on p (s .registers) (s .memory) image lent (good .sound) (record { cells = good .narrow; bytes = bytes }) (good .blank .output) long takes same
+    goes-on p (s .registers) (s .memory) image lent (good .sound) typed (good .blank .output) long takes same

@@ -7,7 +7,7 @@ use mathlib.Core.List.{List, _++_}
 use lib.ListN.{length, getD, take, drop, replicate}
 use Rattle.rules.specs.Sizes.{maxHistory, maxOutput, stateSize}
 use Rattle.rules.specs.Table.{Program}
-use Rattle.rules.specs.State.{Memory, registersHolding, others}
+use Rattle.rules.specs.State.{Memory, registersHolding}
 use Rattle.rules.specs.Numbers.{machineNumber, numberOfStep, lengthOfSaved}
 use Rattle.rules.specs.Step as Step
 use Rattle.rules.specs.SavedState.{Saving, save, load}
@@ -16,7 +16,8 @@ use Rattle.rules.specs.declared.MachineRefusal.the-variants.{HistoryFull}
 use Rattle.rules.specs.declared.Step.{Step}
 use Rattle.rules.specs.declared.Saved.the-variants.{Bytes}
 use Rattle.rules.specs.declared.Resumed.the-variants.{Going}
-use Rattle.promises.specs.Series.{State, stateOf, resumed, afresh}
+use Rattle.promises.specs.Series.{State, stateOf, leftByLoad, fresh, afresh}
+use Rattle.promises.specs.Agrees.{Alike}
 
 -- ---- saving and loading again
 
@@ -26,7 +27,7 @@ pub record Typed (m : Memory) : Type 0 where
   pub bytes : (k : ℕ) → getD (m .output) k 0 < 2 ^ 8
 
 -- "Loading needs lent slices of the saved N", a history and an output within their ranges, and room for the bytes that are written
-pub record TakesIn (r : Registers) (m : Memory) : Type 0 where
+pub record RoomFor (r : Registers) (m : Memory) : Type 0 where
   pub bits : length (m .cells .bits) ≡ r .n
   pub tags : length (m .cells .tags) ≡ r .n
   pub history : length (m .history) ≤ maxHistory
@@ -58,7 +59,7 @@ pub record CarriedOver (p : Program) (r : Registers) (m : Memory) (image : List 
   pub fits : length (toldImage (save p r m image)) ≤ stateSize
   -- and so is the load
   pub loads : load (toldImage (save p r m image)) p lent .answer .resumed ≡ Going
-  pub keeps : resumed (load (toldImage (save p r m image)) p lent) ≡ carriedTo lent r m
+  pub keeps : leftByLoad (load (toldImage (save p r m image)) p lent) ≡ carriedTo lent r m
 
 -- ---- the saved session goes on
 
@@ -70,15 +71,16 @@ Unwritten r m = drop (r .written) (m .output) ≡ replicate (length (m .output) 
 abbrev pub answerAfter : Program → State → ℕ → Step
 answerAfter p o i = Step.step p (afresh p o i .registers) (afresh p o i .memory) .answer
 
--- it is not 8
-abbrev pub RoomAfter : Program → State → ℕ → Type 0
-RoomAfter p o i = numberOfStep (answerAfter p o i) ≡ machineNumber HistoryFull → ⊥
+-- an answer is not 8
+abbrev pub NotEight : Step → Type 0
+NotEight a = numberOfStep a ≡ machineNumber HistoryFull → ⊥
 
--- the same cells, tags, output, PC, SP, FBR and HALT, N and the written count
-pub record SameShown (s t : State) : Type 0 where
-  pub cells : s .memory .cells ≡ t .memory .cells
-  pub output : s .memory .output ≡ t .memory .output
-  pub registers : others (s .registers) ≡ others (t .registers)
+abbrev pub RoomAfter : Program → State → ℕ → Type 0
+RoomAfter p o i = NotEight (answerAfter p o i)
+
+-- the same cells, tags and output, and the same registers but for H, U and the kept number
+abbrev pub SameShown : (s t : State) → Type 0
+SameShown s t = Alike (fresh t) s
 
 -- what is promised of two machines: until one of them answers 8, they show the same after each step, and answer it alike
 pub record GoesOn (p : Program) (s t : State) : Type 0 where

@@ -140,8 +140,8 @@ afresh p o k = series p (replicate k step) (begin o)
 abbrev pub left : Reset.Started → State
 left o = record { registers = o .answer .registers; memory = o .memory }
 
-abbrev pub resumed : SavedState.Loading → State
-resumed o = record { registers = o .answer .registers; memory = o .memory }
+abbrev pub leftByLoad : SavedState.Loading → State
+leftByLoad o = record { registers = o .answer .registers; memory = o .memory }
 
 -- "its other sizes the same": as many cells, tags and bytes of output, whatever they hold
 pub record SameSizes (m m′ : Memory) : Type 0 where
@@ -160,7 +160,7 @@ pub data Origin (p : Program) (o : State) (x : Unbounded) : Type 0 where
   reset : (m m′ : Memory) → Reset.reset p m .answer .begun ≡ Ready → Reset.reset p m′ .answer .begun ≡ Ready → SameSizes m m′
       → o ≡ left (Reset.reset p m) → x ≡ fresh (left (Reset.reset p m′)) → Origin p o x
   load : (image : List ℕ) (m m′ : Memory) → SavedState.load image p m .answer .resumed ≡ Going → SavedState.load image p m′ .answer .resumed ≡ Going → SameSizes m m′
-      → o ≡ resumed (SavedState.load image p m) → x ≡ fresh (resumed (SavedState.load image p m′)) → Origin p o x
+      → o ≡ leftByLoad (SavedState.load image p m) → x ≡ fresh (leftByLoad (SavedState.load image p m′)) → Origin p o x
 
 -- ---- what is promised
 

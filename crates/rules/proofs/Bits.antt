@@ -15,6 +15,7 @@ use Rattle.rules.specs.Lists.{part, splice}
 use Rattle.rules.specs.Fields.{field, value, bitsOf, bytesOf, packedTo, padded}
 use Rattle.rules.proofs.Zeros.{take-zeros, drop-zeros}
 use Rattle.rules.proofs.Fields.{field-length, field-low, value-field, bitsOf-length}
+use Rattle.rules.proofs.Splice.{length-part}
 
 -- ---- each is 0 or 1
 
@@ -50,7 +51,7 @@ unfolding bitsOf
 bits-bytes [] = tt
 bits-bytes (x ∷ xs) = bits-append (field 8 x) (bitsOf xs) (bits-field 8 x) (bits-bytes xs)
 
-pub value-most : (l : List ℕ) → Bits l → value l < 2 ^ length l
+value-most : (l : List ℕ) → Bits l → value l < 2 ^ length l
 unfolding value
 value-most [] x = omega arith
 value-most (b ∷ l) x =
@@ -69,6 +70,11 @@ field-value (b ∷ l) x =
     ap₂ (λ (v : ℕ) (r : List ℕ). v ∷ r)
     (ap (λ (v : ℕ). v % 2) (high b (length l) (value-most l (x .1))) ∙ mod-eq-of-lt (x .0))
     (field-low (length l) b (value l) ∙ field-value l (x .1))
+
+-- and so is a part of them
+pub part-value : (l : List ℕ) → Bits l → (at w : ℕ) → at + w ≤ length l → field w (value (part at w l)) ≡ part at w l
+part-value l x at w h =
+    ap (λ (n : ℕ). field n (value (part at w l))) (sym (length-part at w l h)) ∙ field-value (part at w l) (bits-take w (drop at l) (bits-drop at l x))
 
 -- ---- zeros
 

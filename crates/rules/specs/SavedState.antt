@@ -19,6 +19,7 @@ use Rattle.rules.specs.declared.LoadRefusal.{LoadRefusal}
 use Rattle.rules.specs.declared.LoadRefusal.the-variants.{OutsideRanges, StateEndsEarly, StatePadding, OtherSizes}
 use Rattle.rules.specs.declared.Saved.{Saved}
 use Rattle.rules.specs.declared.Saved.the-variants.{Bytes, NotSaved}
+use Rattle.rules.specs.declared.Resumed.{Resumed}
 use Rattle.rules.specs.declared.Resumed.the-variants.{Going, NotGoing}
 use Rattle.rules.specs.declared.Load.{Load}
 
@@ -32,15 +33,15 @@ abbrev pub headOf : Registers → List ℕ
 headOf r = r .n ∷ r .pc ∷ r .sp ∷ r .fbr ∷ r .halt ∷ r .written ∷ []
 
 -- "then each of the N cells as tag 3 and bits 32"
-abbrev pub savedLayout : List ℕ
-savedLayout = 3 ∷ 32 ∷ []
+abbrev pub savedCellLayout : List ℕ
+savedCellLayout = 3 ∷ 32 ∷ []
 
 -- how many bits the head and one cell have
 abbrev pub headWidth : ℕ
 headWidth = total headLayout
 
-abbrev pub savedWidth : ℕ
-savedWidth = total savedLayout
+abbrev pub savedCellWidth : ℕ
+savedCellWidth = total savedCellLayout
 
 -- ---- the save
 
@@ -48,7 +49,7 @@ savedWidth = total savedLayout
 abbrev pub cellsSaved : (tags bits : List ℕ) → List ℕ
 cellsSaved [] bs = []
 cellsSaved (t ∷ ts) [] = []
-cellsSaved (t ∷ ts) (b ∷ bs) = side savedLayout (t ∷ b ∷ []) ++ cellsSaved ts bs
+cellsSaved (t ∷ ts) (b ∷ bs) = side savedCellLayout (t ∷ b ∷ []) ++ cellsSaved ts bs
 
 -- "then the written output bytes": all that is saved, of registers, cells and output
 unfoldable pub stateBits : Registers → Cells → (output : List ℕ) → List ℕ
@@ -72,11 +73,18 @@ save p r m image =
 
 -- ---- the load
 
--- the registers that an image holds: "U and the kept number become 0 and H is the lent history's"
+-- N and the output count that an image tells
+abbrev pub toldCells : (bits : List ℕ) → ℕ
+toldCells bits = fieldIn headLayout 0 bits
+
+abbrev pub toldBytes : (bits : List ℕ) → ℕ
+toldBytes bits = fieldIn headLayout 5 bits
+
+-- the registers that it holds: "U and the kept number become 0 and H is the lent history's"
 unfoldable pub registersIn : (h : ℕ) → (bits : List ℕ) → Registers
 registersIn h bits =
     record {
-      n = fieldIn headLayout 0 bits;
+      n = toldCells bits;
       h = h;
       pc = fieldIn headLayout 1 bits;
       sp = fieldIn headLayout 2 bits;
@@ -84,26 +92,26 @@ registersIn h bits =
       halt = fieldIn headLayout 4 bits;
       used = 0;
       kept = 0;
-      written = fieldIn headLayout 5 bits;
+      written = toldBytes bits;
     }
 
 -- field i of each of n cells, the first of which stands first
 unfoldable pub columnIn : (i n : ℕ) → (bits : List ℕ) → List ℕ
 columnIn i zero bits = []
-columnIn i (suc n) bits = fieldIn savedLayout i bits ∷ columnIn i n (drop savedWidth bits)
+columnIn i (suc n) bits = fieldIn savedCellLayout i bits ∷ columnIn i n (drop savedCellWidth bits)
 
 abbrev pub cellsIn : (n : ℕ) → (bits : List ℕ) → Cells
 cellsIn n bits = record { bits = columnIn 1 n (drop headWidth bits); tags = columnIn 0 n (drop headWidth bits) }
 
--- where the output's bytes begin, and where they end, which is all that N and the output count announce
-abbrev pub outputFrom : Registers → ℕ
-outputFrom r = headWidth + r .n * savedWidth
+-- where the output's bytes begin behind n cells, and where they end, which is all that N and the output count announce
+abbrev pub outputFrom : (n : ℕ) → ℕ
+outputFrom n = headWidth + n * savedCellWidth
 
-abbrev pub announced : Registers → ℕ
-announced r = outputFrom r + r .written * 8
+abbrev pub announced : (n written : ℕ) → ℕ
+announced n written = outputFrom n + written * 8
 
 unfoldable pub bytesIn : Registers → (bits : List ℕ) → List ℕ
-bytesIn r bits = bytesOf (r .written) (drop (outputFrom r) bits)
+bytesIn r bits = bytesOf (r .written) (drop (outputFrom (r .n)) bits)
 
 -- an answer, and the memory that it leaves
 pub record Loading : Type 0 where
@@ -126,13 +134,22 @@ memoryIn r bits m =
 abbrev pub loaded : Registers → (bits : List ℕ) → Memory → Loading
 loaded r bits m = record { answer = record { resumed = Going; registers = r }; memory = memoryIn r bits m }
 
--- not "41 ends early": the head is there, and then all that it announces
-abbrev pub completeTests : Registers → (bits : ℕ) → List Bool
-completeTests r bits = leb headWidth bits ∷ leb (announced r) bits ∷ []
-
 -- not "67 N not that of the lent cells and tags, or a lent history or output outside its range", by the lengths of the lent slices
 abbrev pub lentSizes : (n : ℕ) → (bits tags history output : ℕ) → List Bool
 lentSizes n bits tags history output = eqb bits n ∷ eqb tags n ∷ leb history maxHistory ∷ leb output maxOutput ∷ []
+
+-- "41 ends early", before all that it announces, which has the head before it; then "67 .."
+unfoldable pub entry : (image : List ℕ) → (bits tags history output : ℕ) → Resumed
+entry image bits tags history output =
+    let l = bitsOf image in
+    cond (leb (announced (toldCells l) (toldBytes l)) (length l))
+    (cond (every (lentSizes (toldCells l) bits tags history output)) Going (NotGoing OtherSizes))
+    (NotGoing StateEndsEarly)
+
+-- what comes after, where neither is given
+abbrev pub entered : Resumed → Memory → Loading → Loading
+entered Going m after = after
+entered (NotGoing e) m after = notLoaded m e
 
 -- not "10 for the ranges of step, an output count above the lent output among them": those of the registers and cells that the image holds, with the lent history
 -- and output, whose contents a step does not judge either
@@ -144,10 +161,7 @@ unfoldable pub load : (image : List ℕ) → Program → Memory → Loading
 load image p m =
     let bits = bitsOf image in
     let r = registersIn (length (m .history)) bits in
-    cond (every (completeTests r (length bits)))
-    (cond (every (lentSizes (r .n) (length (m .cells .bits)) (length (m .cells .tags)) (length (m .history)) (length (m .output))))
+    entered (entry image (length (m .cells .bits)) (length (m .cells .tags)) (length (m .history)) (length (m .output))) m
     (cond (soundIn p r bits m)
-    (cond (padded (drop (announced r) bits)) (loaded r bits m) (notLoaded m StatePadding))
+    (cond (padded (drop (announced (r .n) (r .written)) bits)) (loaded r bits m) (notLoaded m StatePadding))
     (notLoaded m OutsideRanges))
-    (notLoaded m OtherSizes))
-    (notLoaded m StateEndsEarly)

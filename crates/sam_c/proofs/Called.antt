@@ -1,7 +1,6 @@
 -- From what the callees ensure to a whole call: the number, what is told and what is left, put together. Assumes nothing.
 use Prim.Native.Nat.{ℕ}
-use mathlib.Core.Path.{_≡_, refl, sym, ap, _∙_}
-use mathlib.Core.Bool.{Bool, true, false, _&&_}
+use mathlib.Core.Path.{_≡_, sym, ap, _∙_}
 use mathlib.Core.List.{List, [], _∷_}
 use lib.ListN.{length}
 use Rattle.rules.specs.Outputs.{blanked}
@@ -24,7 +23,7 @@ use Rattle.rules.specs.declared.Load.{Load}
 use Rattle.state.specs.Outcomes.{started, stepped}
 use Rattle.forget.specs.Outcomes.{forgot}
 use Rattle.saved.specs.Outcomes.{saving, loading}
-use Rattle.sam_c.specs.Calls.{Filled, Moved, filled, moved, ofLength, notItsLength, untold, registerCount, listOf, registersOf, resetMoved, stepMoved, forgetMoved, loadMoved, notLoadedInto, saveFilled, Walked, walked, runWalked, Answered, answered, dwellAnswered, depthsAnswered}
+use Rattle.sam_c.specs.Calls.{Filled, Moved, filled, moved, ofLength, notItsLength, untold, registerCount, listOf, registersOf, resetMoved, stepMoved, forgetMoved, loadMoved, saveFilled, Walked, walked, runWalked, Answered, answered, dwellAnswered, depthsAnswered}
 use Rattle.sam_c.proofs.Lent.{of-length, of-another}
 
 -- a call that fills an output, whose answer is a′ and which leaves out′
@@ -106,11 +105,6 @@ module _ (t : List ℕ) (ht : length t ≡ 1) (l : List ℕ) (h : length l ≡ r
       ∙ ap (λ (q : Registers). saveFilled (f q)) er
       ∙ sym (of-length registerCount l _ _ h)
       ∙ sym (of-length 1 t _ _ ht)
-
--- what comes before 10 at a load: that it is taken in is asked of a complete image
-pub not-loaded-by : (a b : Bool) → notLoadedInto a (a && b) ≡ notLoadedInto a b
-not-loaded-by true b = refl
-not-loaded-by false b = refl
 
 -- a judgement, which answers d′
 pub depths-called : (t : List ℕ) (ht : length t ≡ 1) (instead : Answered) {k : ℕ} {d d′ : Checked} {place : ℕ} {told : List ℕ} → d ≡ d′ → told ≡ place ∷ []

@@ -10,7 +10,6 @@ use Rattle.rules.specs.Sizes.{maxProgram, maxLimit, listingSize, imageSize, sta
 use Rattle.rules.specs.Table.{Program}
 use Rattle.rules.specs.State.{Memory}
 use Rattle.rules.specs.Outputs.{blanked}
-use Rattle.rules.specs.Fields.{bitsOf}
 use Rattle.rules.specs.Assemble.{Assembly, assemble}
 use Rattle.rules.specs.Listing.{Written, list}
 use Rattle.rules.specs.Image.{Filed, pack, unpack}
@@ -21,7 +20,7 @@ use Rattle.rules.specs.Run.{Ran, run}
 use Rattle.rules.specs.Forget.{Forgets, forget}
 use Rattle.rules.specs.Dwell.{dwell}
 use Rattle.rules.specs.DepthList.{check}
-use Rattle.rules.specs.SavedState.{Saving, save, registersIn, completeTests, lentSizes, Loading, load}
+use Rattle.rules.specs.SavedState.{Saving, save, entry, Loading, load}
 use Rattle.rules.specs.Numbers.{machineNumber, textNumber, numberOfAssembled, lengthOfAssembled, positionOfAssembled, numberOfListed, lengthOfListed, numberOfPacked, lengthOfPacked, numberOfReset, numberOfStep, registersAfter, numberOfEnding, numberOfDwell, tenthsOfDwell, numberOfForgot, registersForgot, numberOfChecked, placeOfChecked, numberOfSaved, lengthOfSaved, loadNumber, numberOfLoad}
 use Rattle.rules.specs.declared.Position.{Position}
 use Rattle.rules.specs.declared.Registers.{Registers}
@@ -29,7 +28,8 @@ use Rattle.rules.specs.declared.Dwell.{Dwell}
 use Rattle.rules.specs.declared.Checked.{Checked}
 use Rattle.rules.specs.declared.MachineRefusal.the-variants.{Broken, OutsideSizes}
 use Rattle.rules.specs.declared.TextRefusal.the-variants.{WrongLength}
-use Rattle.rules.specs.declared.LoadRefusal.the-variants.{StateEndsEarly, OtherSizes}
+use Rattle.rules.specs.declared.Resumed.{Resumed}
+use Rattle.rules.specs.declared.Resumed.the-variants.{Going, NotGoing}
 
 -- ---- what a call gives and leaves
 
@@ -86,15 +86,14 @@ abbrev pub notRegisters : (sized : Bool) → ℕ
 notRegisters true = broken
 notRegisters false = machineNumber OutsideSizes
 
--- "Refusals for save: 31, then 10." (02 k): of a save into an image of so many bytes
-unfoldable pub notSavedFrom : (image : ℕ) → ℕ
-notSavedFrom image = cond (eqb image stateSize) broken notItsLength
+-- "Refusals for save: 31, then 10." (02 k): so they are of a save into an image of so many bytes
+unfoldable pub notRegistersSaved : (image : ℕ) → ℕ
+notRegistersSaved image = cond (eqb image stateSize) broken notItsLength
 
--- "For load, in this order: 41 ..; 67 ..; 10 .." (02 k): of a load whose image is complete or not, and is taken in by what is lent or not
-abbrev pub notLoadedInto : (complete fits : Bool) → ℕ
-notLoadedInto false fits = loadNumber StateEndsEarly
-notLoadedInto true false = loadNumber OtherSizes
-notLoadedInto true true = broken
+-- "For load, in this order: 41 ..; 67 ..; 10 .." (02 k): and of a load that is refused with one of the first two, or not
+abbrev pub notRegistersLoaded : Resumed → ℕ
+notRegistersLoaded Going = broken
+notRegistersLoaded (NotGoing e) = loadNumber e
 
 -- how many registers there are
 abbrev pub registerCount : ℕ
@@ -196,17 +195,10 @@ runCall p limit registers m told =
 abbrev pub loadMoved : Loading → Moved
 loadMoved o = moved (numberOfLoad (o .answer .resumed)) (listOf (o .answer .registers)) (o .memory)
 
--- what is refused before 10, of an image and of what is lent
-abbrev pub complete : (image : List ℕ) → Bool
-complete image = let l = bitsOf image in every (completeTests (registersIn 0 l) (length l))
-
-abbrev pub takenIn : (image : List ℕ) → Memory → Bool
-takenIn image m =
-    every (lentSizes (registersIn 0 (bitsOf image) .n) (length (m .cells .bits)) (length (m .cells .tags)) (length (m .history)) (length (m .output)))
-
 abbrev pub loadCall : (image : List ℕ) → Program → List ℕ → Memory → Moved
 loadCall image p registers m =
-    ofLength registerCount registers (loadMoved (load image p m)) (moved (notLoadedInto (complete image) (takenIn image m)) registers m)
+    let first = entry image (length (m .cells .bits)) (length (m .cells .tags)) (length (m .history)) (length (m .output)) in
+    ofLength registerCount registers (loadMoved (load image p m)) (moved (notRegistersLoaded first) registers m)
 
 -- ---- the calls that only read a machine
 
@@ -228,7 +220,7 @@ abbrev pub saveCall : Program → List ℕ → Memory → List ℕ → List ℕ 
 saveCall p registers m image told =
     ofLength 1 told
     (ofLength registerCount registers (saveFilled (save p (registersOf registers) m image))
-    (filled (notSavedFrom (length image)) (0 ∷ []) (blanked stateSize image)))
+    (filled (notRegistersSaved (length image)) (0 ∷ []) (blanked stateSize image)))
     (untold stateSize told image)
 
 -- ---- the call that only reads a program and its depth list

@@ -3,7 +3,7 @@
 use Prim.Native.Nat.{ℕ, _+_}
 use mathlib.Core.Path.{_≡_, refl}
 use mathlib.Core.Bool.{Bool, true, _&&_}
-use mathlib.Core.List.{List, [], _∷_}
+use mathlib.Core.List.{List, [], _∷_, _++_}
 use lib.ListN.{replicate}
 use lib.Dec.{eqb}
 use Rattle.rules.specs.Lists.{text, every, same}
@@ -13,7 +13,7 @@ use Rattle.rules.specs.Table.{Program, program}
 use Rattle.rules.specs.State.{Memory, memory}
 use Rattle.rules.specs.Examples.{programOf, holds}
 use Rattle.rules.specs.DepthList.{check}
-use Rattle.sam_c.specs.Calls.{Filled, Moved, ofLength, notSavedFrom, assembleCall, listCall, packCall, unpackCall, resetCall, forgetCall, runCall, depthsCall, loadCall, saveCall}
+use Rattle.sam_c.specs.Calls.{Filled, Moved, ofLength, notRegistersSaved, assembleCall, listCall, packCall, unpackCall, resetCall, forgetCall, runCall, depthsCall, loadCall, saveCall}
 
 -- what stood in every lent place before
 abbrev old : ℕ → List ℕ
@@ -61,10 +61,11 @@ saves number registers image told after left =
     let f = saveCall (programOf "STOP") (old registers) (memory (old 2) (old 2) (old 3) (old 2)) (old image) told in
     eqb (f .number) number && same (f .told) after && same (f .output) left
 
--- a load of an image of one cell, INT 0, into that memory with so many registers
+-- a load into that memory with so many registers
 abbrev loads : (number registers : ℕ) → (image : List ℕ) → Memory → Bool
 loads number registers image m = stays (loadCall image (programOf "STOP") (old registers) m) number (old registers) m
 
+-- the image of one cell, INT 0
 abbrev oneCell : List ℕ
 oneCell = 0x00 ∷ 0x40 ∷ zeros 9
 
@@ -113,15 +114,16 @@ lengths =
     ∷ saves 31 8 3 (old 1) (zeros 1) (old 3)
     ∷ saves 10 8 stateSize (old 1) (zeros 1) (zeros stateSize)
     ∷ saves 10 9 stateSize (old 1) (zeros 1) (zeros stateSize)
-    -- "For load, in this order: 41 ..; 67 ..; 10 .." (02 k): an image that ends early, one cell too many, and registers of another length
+    -- "For load, in this order: 41 ..; 67 ..; 10 .." (02 k): an image that ends early, one cell too many, and registers of another length, also where a byte is left over
     ∷ loads 41 8 (zeros 6) (memory (old 1) (old 1) [] [])
     ∷ loads 41 8 (0x00 ∷ 0x40 ∷ zeros 8) (memory (old 2) (old 1) [] [])
     ∷ loads 67 10 oneCell (memory (old 2) (old 2) [] [])
     ∷ loads 67 8 oneCell (memory (old 1) (old 1) [] (old (maxOutput + 1)))
     ∷ loads 10 8 oneCell (memory (old 1) (old 1) (old 2) (old 2))
     ∷ loads 10 0 oneCell (memory (old 1) (old 1) [] [])
+    ∷ loads 10 8 (oneCell ++ zeros 1) (memory (old 1) (old 1) [] [])
     ∷ []
 
 pub all-lengths : every lengths ≡ true
-unfolding lengths ofLength notSavedFrom holds check SavedState.save SavedState.stateBits SavedState.registersIn SavedState.columnIn SavedState.bytesIn SavedState.load
+unfolding lengths ofLength notRegistersSaved holds check SavedState.save SavedState.stateBits SavedState.registersIn SavedState.columnIn SavedState.bytesIn SavedState.entry SavedState.load
 all-lengths = refl

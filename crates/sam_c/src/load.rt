@@ -20,10 +20,13 @@ pub extern "C" fn sam_load(
     ensures { λ a. ⌜ moved a (now (registers .exit)) (memory (now (bits .exit)) (now (tags .exit)) (now (history .exit)) (now (output .exit))) ≡ loadCall (now (image .entry)) (program (now (table .entry)) length) (now (registers .entry)) (memory (now (bits .entry)) (now (tags .entry)) (now (history .entry)) (now (output .entry))) ⌝ }
 {
     if registers.len() != registers::COUNT {
-        return registers::not_loaded(
-            saved::is_complete(image),
-            saved::takes_in(image, bits.len(), tags.len(), history.len(), output.len()),
-        );
+        return registers::refused_load(saved::entry(
+            image,
+            bits.len(),
+            tags.len(),
+            history.len(),
+            output.len(),
+        ));
     }
     let answer = saved::load(image, table, length as usize, bits, tags, history, output);
     let r = answer.registers;

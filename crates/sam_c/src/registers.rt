@@ -2,12 +2,13 @@
 use crate::told;
 use rules::Forgot;
 use rules::Registers;
+use rules::Resumed;
 use rules::Step;
 use rules::sizes;
 ghost use mathlib.Core.Path.{_≡_};
 ghost use lib.ListN.{length};
 ghost use Rattle.rules.specs.Numbers.{registersAfter, registersForgot};
-ghost use Rattle.sam_c.specs.Calls.{notRegisters, notSavedFrom, notLoadedInto, registerCount, listOf, registersOf};
+ghost use Rattle.sam_c.specs.Calls.{notRegisters, notRegistersSaved, notRegistersLoaded, registerCount, listOf, registersOf};
 
 // How many there are.
 pub(crate) const COUNT: usize = 9;
@@ -29,8 +30,8 @@ pub(crate) fn refused(sized: bool) -> u32
 }
 
 // The number of a save that is lent registers of another length, and an image of so many bytes.
-pub(crate) fn not_saved(image: usize) -> u32
-    ensures { λ a. ⌜ a ≡ notSavedFrom image ⌝ }
+pub(crate) fn refused_save(image: usize) -> u32
+    ensures { λ a. ⌜ a ≡ notRegistersSaved image ⌝ }
 {
     if image == sizes::STATE_SIZE {
         return BROKEN;
@@ -38,22 +39,14 @@ pub(crate) fn not_saved(image: usize) -> u32
     told::NOT_ITS_LENGTH
 }
 
-// "image ends early", and "N not that of the lent cells and tags, ..", which come before it at a load.
-const ENDS_EARLY: u32 = 41;
-
-const OTHER_SIZES: u32 = 67;
-
-// The number of a load that is lent registers of another length, by whether its image is complete, and is taken in by what is lent.
-pub(crate) fn not_loaded(complete: bool, fits: bool) -> u32
-    ensures { λ a. ⌜ a ≡ notLoadedInto complete fits ⌝ }
+// The number of a load that is lent registers of another length, by whether all else that comes before 10 is as it should be.
+pub(crate) fn refused_load(entry: Resumed) -> u32
+    ensures { λ a. ⌜ a ≡ notRegistersLoaded entry ⌝ }
 {
-    if !complete {
-        return ENDS_EARLY;
+    match entry {
+        Resumed::Going => BROKEN,
+        Resumed::NotGoing(e) => numbers::load_number(e),
     }
-    if fits {
-        return BROKEN;
-    }
-    OTHER_SIZES
 }
 
 // Reads them.

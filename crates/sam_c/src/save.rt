@@ -29,7 +29,7 @@ pub extern "C" fn sam_save(
     if registers.len() != registers::COUNT {
         told::tell(told, 0);
         lent::blank_bytes(image, sizes::STATE_SIZE);
-        return registers::not_saved(image.len());
+        return registers::refused_save(image.len());
     }
     let r = registers::read(registers);
     let answer = saved::save(

@@ -1,6 +1,5 @@
 -- Laws for the proofs of this crate's functions.
 pub mod OneNumber
 pub mod Columns
-pub mod Complete
 pub mod Verdicts
 pub mod States

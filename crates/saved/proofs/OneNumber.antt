@@ -8,21 +8,19 @@ use lib.ListN.{length, getD, take, drop}
 use lib.Seq.{drop-drop}
 use Rattle.rules.specs.Lists.{part}
 use Rattle.rules.specs.Fields.{field, value, total, fieldIn}
-use Rattle.rules.specs.SavedState.{headLayout, headWidth, savedLayout, savedWidth, registersIn}
+use Rattle.rules.specs.SavedState.{headLayout, headWidth, savedCellLayout, savedCellWidth, toldCells, toldBytes, registersIn, announced}
 use Rattle.rules.specs.declared.Cell.{Cell}
-use Rattle.rules.proofs.Bits.{Bits, bits-take, bits-drop, field-value, part-most}
-use Rattle.rules.proofs.Splice.{length-part, part-part}
+use Rattle.rules.specs.declared.Registers.{Registers}
+use Rattle.rules.proofs.Bits.{Bits, part-most, part-value}
+use Rattle.rules.proofs.Splice.{part-part}
 use Rattle.saved.specs.Reach.{mostCells, mostBytes}
 
 whole-read : (ws : List ℕ) (l : List ℕ) → Bits l → (at : ℕ) → at + total ws ≤ length l → (i : ℕ) → total (take i ws) + getD ws i 0 ≤ total ws
     → fieldIn ws i (field (total ws) (value (part at (total ws) l))) ≡ fieldIn ws i (drop at l)
 whole-read ws l x at h i low =
     let w : ℕ = total ws in
-    let m : List ℕ = part at w l in
     let k : ℕ = total (take i ws) in
-    let whole : field w (value m) ≡ m =
-    ap (λ (n : ℕ). field n (value m)) (sym (length-part at w l h)) ∙ field-value m (bits-take w (drop at l) (bits-drop at l x)) in
-    ap (fieldIn ws i) whole
+    ap (fieldIn ws i) (part-value l x at w h)
     ∙ ap value (part-part at k w (getD ws i 0) l low ∙ ap (take (getD ws i 0)) (sym (drop-drop k at l)))
 
 -- the head
@@ -43,6 +41,11 @@ head-read h l x long i =
       written = read 5 (lit≤ tt) i;
     }
 
+-- what an image announces, by registers that it holds
+pub head-announces : (h : ℕ) (l : List ℕ) (r : Registers) → r ≡ registersIn h l → announced (r .n) (r .written) ≡ announced (toldCells l) (toldBytes l)
+unfolding registersIn
+head-announces h l r e = ap (λ (q : Registers). announced (q .n) (q .written)) e
+
 -- its N and its output count are of ten bits and of nine
 pub head-small : (h : ℕ) (l : List ℕ) → Bits l → (registersIn h l .n ≤ mostCells) × (registersIn h l .written ≤ mostBytes)
 unfolding registersIn
@@ -50,8 +53,8 @@ head-small h l x = (omega (arith, part-most l x 0 10), omega (arith, part-most l
 
 -- a cell: its bits, and its tag
 abbrev pub savedCell : List ℕ → Cell
-savedCell l = record { bits = fieldIn savedLayout 1 l; tag = fieldIn savedLayout 0 l }
+savedCell l = record { bits = fieldIn savedCellLayout 1 l; tag = fieldIn savedCellLayout 0 l }
 
-pub cell-read : (l : List ℕ) → Bits l → (at : ℕ) → at + savedWidth ≤ length l → savedCell (field savedWidth (value (part at savedWidth l))) ≡ savedCell (drop at l)
+pub cell-read : (l : List ℕ) → Bits l → (at : ℕ) → at + savedCellWidth ≤ length l → savedCell (field savedCellWidth (value (part at savedCellWidth l))) ≡ savedCell (drop at l)
 cell-read l x at h i =
-    record { bits = whole-read savedLayout l x at h 1 (lit≤ tt) i; tag = whole-read savedLayout l x at h 0 (lit≤ tt) i }
+    record { bits = whole-read savedCellLayout l x at h 1 (lit≤ tt) i; tag = whole-read savedCellLayout l x at h 0 (lit≤ tt) i }

@@ -10,22 +10,22 @@ use Rattle.rules.specs.Lists.{splice}
 use Rattle.rules.specs.Sizes.{maxCells, stateSize}
 use Rattle.rules.specs.Fields.{field, value, bitsOf, packedTo, side}
 use Rattle.rules.specs.Cells.{Cells}
-use Rattle.rules.specs.SavedState.{headLayout, headOf, headWidth, savedWidth, cellsSaved, stateBits}
+use Rattle.rules.specs.SavedState.{headLayout, headOf, headWidth, savedCellWidth, cellsSaved, stateBits}
 use Rattle.rules.specs.declared.Registers.{Registers}
 use Rattle.rules.proofs.Fields.{bitsOf-length}
 use Rattle.rules.proofs.Bits.{packed-is}
 use Rattle.rules.proofs.Layouts.{side-length, laid-out}
 use Rattle.rules.proofs.Splice.{splice-beside}
 use Rattle.rules.proofs.SavedState.{cells-saved-length}
-use Rattle.fields.specs.Within.{written}
+use Rattle.fields.specs.Within.{putAt}
 use Rattle.fields.proofs.Within.{written-inside}
 
 -- z is zero; the head, the cells and the bytes are written in turn, which makes x, y and the bits of the image xs
 pub state-written : (r : Registers) (c : Cells) (output z x y xs : List ℕ) (v at : ℕ) → length (c .tags) ≡ r .n → length (c .bits) ≡ r .n → r .n ≤ maxCells
     → z ≡ replicate stateSize 0 → length xs ≡ stateSize → ((k : ℕ) → getD xs k 0 < 2 ^ 8)
-    → v ≡ value (side headLayout (headOf r)) → x ≡ written (bitsOf z) 0 headWidth v
+    → v ≡ value (side headLayout (headOf r)) → x ≡ putAt (bitsOf z) 0 headWidth v
     → y ≡ splice x headWidth (cellsSaved (c .tags) (c .bits))
-    → at ≡ headWidth + r .n * savedWidth → bitsOf xs ≡ splice y at (bitsOf (take (r .written) output))
+    → at ≡ headWidth + r .n * savedCellWidth → bitsOf xs ≡ splice y at (bitsOf (take (r .written) output))
     → xs ≡ packedTo stateSize (stateBits r c output)
 unfolding stateBits
 state-written r c output z x y xs v at tagged celled few ez lx bytes ev ex ey ea ew =
@@ -34,10 +34,10 @@ state-written r c output z x y xs v at tagged celled few ez lx bytes ev ex ey ea
     let tail : List ℕ = bitsOf (take (r .written) output) in
     let zeros : List ℕ = bitsOf (replicate stateSize 0) in
     let lh : length head ≡ headWidth = side-length headLayout (headOf r) in
-    let lb : length body ≡ r .n * savedWidth = cells-saved-length (c .tags) (c .bits) (tagged ∙ sym celled) ∙ ap (λ (k : ℕ). k * savedWidth) tagged in
+    let lb : length body ≡ r .n * savedCellWidth = cells-saved-length (c .tags) (c .bits) (tagged ∙ sym celled) ∙ ap (λ (k : ℕ). k * savedCellWidth) tagged in
     let lz : length zeros ≡ stateSize * 8 = bitsOf-length (replicate stateSize 0) ∙ ap (λ (k : ℕ). k * 8) (length-replicate {A = ℕ} stateSize 0) in
     let first : x ≡ splice zeros 0 head =
-    ex ∙ ap (λ (l : List ℕ). written (bitsOf l) 0 headWidth v) ez ∙ written-inside zeros 0 headWidth v (lit≤ tt) (omega (arith, lz))
+    ex ∙ ap (λ (l : List ℕ). putAt (bitsOf l) 0 headWidth v) ez ∙ written-inside zeros 0 headWidth v (lit≤ tt) (omega (arith, lz))
     ∙ ap (splice zeros 0) (ap (field headWidth) ev ∙ laid-out headLayout (headOf r)) in
     let second : y ≡ splice zeros 0 (head ++ body) =
     ey ∙ ap₂ (λ (l : List ℕ) (k : ℕ). splice l k body) first (sym (zero-add (length head) ∙ lh)) ∙ splice-beside zeros 0 head body (omega (arith, lh, lz)) in

@@ -4,7 +4,7 @@ use rules::Registers;
 ghost use mathlib.Core.Path.{_≡_};
 ghost use mathlib.Core.List.{[], _∷_};
 ghost use Rattle.rules.specs.Fields.{field, value, side, fieldIn};
-ghost use Rattle.rules.specs.SavedState.{headLayout, headOf, headWidth, savedLayout, savedWidth, registersIn};
+ghost use Rattle.rules.specs.SavedState.{headLayout, headOf, headWidth, savedCellLayout, savedCellWidth, registersIn};
 
 // The weight of a field is what 1 counts for in it, and its span is how many numbers it has room for.
 const N_WEIGHT: u64 = 0x200_0000_0000;
@@ -30,7 +30,7 @@ const WRITTEN_SPAN: u64 = 0x200;
 
 const TAG_SPAN: u64 = 0x8;
 
-// Of a number that does not fit its field, the low bits.
+// The registers as one number: of a register that does not fit its field, the low bits.
 pub(crate) fn head_of(r: Registers) -> u64
     ensures { λ a. ⌜ a ≡ value (side headLayout (headOf r)) ⌝ }
 {
@@ -60,14 +60,14 @@ pub(crate) fn registers_of(head: u64, h: usize) -> Registers
 }
 
 // A cell as one number, and back.
-pub(crate) fn number_of(tag: u8, bits: u32) -> u64
-    ensures { λ a. ⌜ a ≡ value (side savedLayout (tag ∷ bits ∷ [])) ⌝ }
+pub(crate) fn cell_number(tag: u8, bits: u32) -> u64
+    ensures { λ a. ⌜ a ≡ value (side savedCellLayout (tag ∷ bits ∷ [])) ⌝ }
 {
     (tag as u64 % TAG_SPAN) * TAG_WEIGHT + bits as u64
 }
 
 pub(crate) fn cell_of(number: u64) -> Cell
-    ensures { λ c. ⌜ c ≡ record { bits = fieldIn savedLayout 1 (field savedWidth number); tag = fieldIn savedLayout 0 (field savedWidth number) } ⌝ }
+    ensures { λ c. ⌜ c ≡ record { bits = fieldIn savedCellLayout 1 (field savedCellWidth number); tag = fieldIn savedCellLayout 0 (field savedCellWidth number) } ⌝ }
 {
     Cell {
         bits: (number % TAG_WEIGHT) as u32,

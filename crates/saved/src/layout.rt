@@ -1,7 +1,7 @@
 // Where things stand in a saved state: the widths of its head and of a cell, and the bits at which the output begins and all of it ends.
 ghost use mathlib.Core.Path.{_≡_};
-ghost use Prim.Native.Nat.{_+_, _*_, _≤_};
-ghost use Rattle.rules.specs.SavedState.{headWidth, savedWidth};
+ghost use Prim.Native.Nat.{_≤_};
+ghost use Rattle.rules.specs.SavedState.{outputFrom, announced};
 ghost use Rattle.saved.specs.Reach.{mostCells, mostBytes};
 
 // "N 10 bits, PC 11, SP 10, FBR 10, HALT 1, output count 9"
@@ -12,10 +12,10 @@ pub(crate) const CELL_WIDTH: usize = 35;
 
 pub(crate) const BYTE_WIDTH: usize = 8;
 
-// Where cell i stands, and behind the last cell the output.
-pub(crate) fn output_from(n: usize) -> usize
+// Behind n cells: there stands the next one, or the output.
+pub(crate) fn behind_cells(n: usize) -> usize
     requires { ⌜ n ≤ mostCells ⌝ }
-    ensures { λ a. ⌜ a ≡ headWidth + n * savedWidth ⌝ }
+    ensures { λ a. ⌜ a ≡ outputFrom n ⌝ }
 {
     HEAD_WIDTH + n * CELL_WIDTH
 }
@@ -23,7 +23,7 @@ pub(crate) fn output_from(n: usize) -> usize
 // Where all ends that N cells and so many bytes of output announce.
 pub(crate) fn announced(n: usize, written: usize) -> usize
     requires { ⌜ (n ≤ mostCells) × (written ≤ mostBytes) ⌝ }
-    ensures { λ a. ⌜ a ≡ headWidth + n * savedWidth + written * 8 ⌝ }
+    ensures { λ a. ⌜ a ≡ announced n written ⌝ }
 {
-    output_from(n) + written * BYTE_WIDTH
+    behind_cells(n) + written * BYTE_WIDTH
 }

@@ -14,13 +14,15 @@ mod writing;
 
 ghost use mathlib.Core.Path.{_≡_};
 ghost use mathlib.Core.Bool.{_&&_};
+ghost use Prim.Native.Nat.{_+_, _*_, _≤_};
 ghost use lib.ListN.{length};
 ghost use Rattle.rules.specs.Lists.{every};
 ghost use Rattle.rules.specs.Fields.{bitsOf};
 ghost use Rattle.rules.specs.Table.{program};
-ghost use Rattle.rules.specs.State.{memory};
-ghost use Rattle.rules.specs.SavedState.{registersIn, completeTests, lentSizes, save, load};
+ghost use Rattle.rules.specs.State.{memory, soundCells, rangeTests};
+ghost use Rattle.rules.specs.SavedState.{headWidth, savedCellWidth, cellsIn, lentSizes, entry, save, load};
 ghost use Rattle.saved.specs.Outcomes.{saving, loading};
+ghost use Rattle.saved.specs.Reach.{mostCells};
 
 // Saves a machine's state: the image, then zeros, and its length told.
 pub fn save(
@@ -46,18 +48,7 @@ pub fn save(
     Saved::Bytes(writing::write_state(r, bits, tags, output, image))
 }
 
-// Whether an image holds all that its own N and output count announce: where not, a load answers 41.
-pub fn is_complete(image: &[u8]) -> bool
-    ensures { λ a. ⌜ a ≡ every (completeTests (registersIn 0 (bitsOf (now (image .entry)))) (length (bitsOf (now (image .entry))))) ⌝ }
-{
-    if !fields::has_bits(image, 0, layout::HEAD_WIDTH) {
-        return false;
-    }
-    let r = reading::registers_in(image, 0);
-    fields::has_bits(image, 0, layout::announced(r.n, r.written))
-}
-
-// Whether cells, tags, history and output of these lengths take in what N cells were saved as: where not, a load answers 67.
+// Whether cells, tags, history and output of these lengths take in n saved cells: where not, a load answers 67.
 fn has_lent_sizes(n: usize, bits: usize, tags: usize, history: usize, output: usize) -> bool
     ensures { λ a. ⌜ a ≡ every (lentSizes n bits tags history output) ⌝ }
 {
@@ -73,16 +64,41 @@ fn has_lent_sizes(n: usize, bits: usize, tags: usize, history: usize, output: us
     output <= sizes::MAX_OUTPUT
 }
 
-// Whether an image is complete and cells, tags, history and output of these lengths take it in: where not, a load answers 41 or 67.
-pub fn takes_in(image: &[u8], bits: usize, tags: usize, history: usize, output: usize) -> bool
-    ensures { λ a. ⌜ a ≡ (every (completeTests (registersIn 0 (bitsOf (now (image .entry)))) (length (bitsOf (now (image .entry))))) && every (lentSizes (registersIn 0 (bitsOf (now (image .entry))) .n) bits tags history output)) ⌝ }
+// What a load is refused with before its table and its state are judged, by the lengths of what is lent: 41, then 67.
+pub fn entry(image: &[u8], bits: usize, tags: usize, history: usize, output: usize) -> Resumed
+    ensures { λ a. ⌜ a ≡ entry (now (image .entry)) bits tags history output ⌝ }
 {
-    let complete = is_complete(image);
-    if !complete {
+    if !fields::has_bits(image, 0, layout::HEAD_WIDTH) {
+        return Resumed::NotGoing(LoadRefusal::StateEndsEarly);
+    }
+    let r = reading::registers_in(image, history);
+    if !fields::has_bits(image, 0, layout::announced(r.n, r.written)) {
+        return Resumed::NotGoing(LoadRefusal::StateEndsEarly);
+    }
+    let fits = has_lent_sizes(r.n, bits, tags, history, output);
+    if !fits {
+        return Resumed::NotGoing(LoadRefusal::OtherSizes);
+    }
+    Resumed::Going
+}
+
+// Whether a state that an image holds is one that a step takes, in a program of `count` instructions and beside a history and an output of these lengths.
+fn is_sound_in(
+    image: &[u8],
+    table: &[u64],
+    count: usize,
+    r: Registers,
+    history: usize,
+    output: usize,
+) -> bool
+    requires { ⌜ (r .n ≤ mostCells) × (headWidth + r .n * savedCellWidth ≤ length (now image) * 8) ⌝ }
+    ensures { λ a. ⌜ a ≡ (every (rangeTests (program (now (table .entry)) count) r (r .n) (r .n) history output) && soundCells count (cellsIn (r .n) (bitsOf (now (image .entry))) .tags) (cellsIn (r .n) (bitsOf (now (image .entry))) .bits)) ⌝ }
+{
+    let ranged = state::is_in_range(table, count, r, r.n, r.n, history, output);
+    if !ranged {
         return false;
     }
-    let r = reading::registers_in(image, 0);
-    has_lent_sizes(r.n, bits, tags, history, output)
+    reading::are_sound_cells_in(image, r.n, count)
 }
 
 // Whether a load is accepted, or what it is refused with: 41, 67, 10, 45 in this order.
@@ -97,28 +113,21 @@ fn verdict(
 ) -> Resumed
     ensures { λ a. ⌜ a ≡ load (now (image .entry)) (program (now (table .entry)) length) (memory (now (bits .entry)) (now (tags .entry)) (now (history .entry)) (now (output .entry))) .answer .resumed ⌝ }
 {
-    let complete = is_complete(image);
-    if !complete {
-        return Resumed::NotGoing(LoadRefusal::StateEndsEarly);
+    match entry(image, bits.len(), tags.len(), history.len(), output.len()) {
+        Resumed::NotGoing(refusal) => Resumed::NotGoing(refusal),
+        Resumed::Going => {
+            let r = reading::registers_in(image, history.len());
+            let sound = is_sound_in(image, table, length, r, history.len(), output.len());
+            if !sound {
+                return Resumed::NotGoing(LoadRefusal::OutsideRanges);
+            }
+            let padded = fields::is_padded(image, layout::announced(r.n, r.written));
+            if !padded {
+                return Resumed::NotGoing(LoadRefusal::StatePadding);
+            }
+            Resumed::Going
+        }
     }
-    let r = reading::registers_in(image, history.len());
-    let fits = has_lent_sizes(r.n, bits.len(), tags.len(), history.len(), output.len());
-    if !fits {
-        return Resumed::NotGoing(LoadRefusal::OtherSizes);
-    }
-    let ranged = state::is_in_range(table, length, r, r.n, r.n, history.len(), output.len());
-    if !ranged {
-        return Resumed::NotGoing(LoadRefusal::OutsideRanges);
-    }
-    let sound = reading::are_sound_cells_in(image, r.n, length);
-    if !sound {
-        return Resumed::NotGoing(LoadRefusal::OutsideRanges);
-    }
-    let padded = fields::is_padded(image, layout::announced(r.n, r.written));
-    if !padded {
-        return Resumed::NotGoing(LoadRefusal::StatePadding);
-    }
-    Resumed::Going
 }
 
 // Loads a saved state: cells, tags, written output and registers as they were saved, history and the output's rest zero; or refuses, answers zero registers and
@@ -143,7 +152,7 @@ pub fn load(
             let r = reading::registers_in(image, history.len());
             reading::read_cells(image, bits, tags);
             lent::clear_places(history);
-            reading::read_output(image, layout::output_from(r.n), r.written, output);
+            reading::read_output(image, layout::behind_cells(r.n), r.written, output);
             Load {
                 resumed: Resumed::Going,
                 registers: r,

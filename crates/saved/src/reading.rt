@@ -4,7 +4,7 @@ use crate::head::registers_of;
 use crate::layout::BYTE_WIDTH;
 use crate::layout::CELL_WIDTH;
 use crate::layout::HEAD_WIDTH;
-use crate::layout::output_from;
+use crate::layout::behind_cells;
 use fields::get;
 use rules::Cell;
 use rules::Registers;
@@ -14,7 +14,7 @@ ghost use Prim.Native.Nat.{_+_, _-_, _*_, _<_, _≤_};
 ghost use lib.ListN.{length, drop, replicate};
 ghost use Rattle.rules.specs.Fields.{bitsOf, bytesOf, fieldIn};
 ghost use Rattle.rules.specs.State.{soundCells};
-ghost use Rattle.rules.specs.SavedState.{headWidth, savedLayout, savedWidth, registersIn, cellsIn};
+ghost use Rattle.rules.specs.SavedState.{headWidth, savedCellLayout, savedCellWidth, registersIn, cellsIn};
 ghost use Rattle.saved.specs.Reach.{mostCells, mostBytes, outputReach};
 
 // The registers, beside a history of h places.
@@ -28,15 +28,15 @@ pub(crate) fn registers_in(image: &[u8], h: usize) -> Registers
 
 // Cell i.
 fn cell_in(image: &[u8], i: usize) -> Cell
-    requires { ⌜ (i ≤ mostCells) × (headWidth + i * savedWidth + savedWidth ≤ length (now image) * 8) ⌝ }
-    ensures { λ c. ⌜ c ≡ record { bits = fieldIn savedLayout 1 (drop (headWidth + i * savedWidth) (bitsOf (now (image .entry)))); tag = fieldIn savedLayout 0 (drop (headWidth + i * savedWidth) (bitsOf (now (image .entry)))) } ⌝ }
+    requires { ⌜ (i ≤ mostCells) × (headWidth + i * savedCellWidth + savedCellWidth ≤ length (now image) * 8) ⌝ }
+    ensures { λ c. ⌜ c ≡ record { bits = fieldIn savedCellLayout 1 (drop (headWidth + i * savedCellWidth) (bitsOf (now (image .entry)))); tag = fieldIn savedCellLayout 0 (drop (headWidth + i * savedCellWidth) (bitsOf (now (image .entry)))) } ⌝ }
 {
-    cell_of(get(image, output_from(i), CELL_WIDTH))
+    cell_of(get(image, behind_cells(i), CELL_WIDTH))
 }
 
 // Whether each of n cells may stand in a sound state of a program of `count` instructions.
 pub(crate) fn are_sound_cells_in(image: &[u8], n: usize, count: usize) -> bool
-    requires { ⌜ (n ≤ mostCells) × (headWidth + n * savedWidth ≤ length (now image) * 8) ⌝ }
+    requires { ⌜ (n ≤ mostCells) × (headWidth + n * savedCellWidth ≤ length (now image) * 8) ⌝ }
     ensures { λ a. ⌜ a ≡ soundCells count (cellsIn n (bitsOf (now (image .entry))) .tags) (cellsIn n (bitsOf (now (image .entry))) .bits) ⌝ }
 {
     let mut i = 0;
@@ -53,7 +53,7 @@ pub(crate) fn are_sound_cells_in(image: &[u8], n: usize, count: usize) -> bool
 
 // Reads as many cells as there are bits and tags.
 pub(crate) fn read_cells(image: &[u8], bits: &mut [u32], tags: &mut [u8])
-    requires { ⌜ (length (now tags) ≡ length (now bits)) × (length (now bits) ≤ mostCells) × (headWidth + length (now bits) * savedWidth ≤ length (now image) * 8) ⌝ }
+    requires { ⌜ (length (now tags) ≡ length (now bits)) × (length (now bits) ≤ mostCells) × (headWidth + length (now bits) * savedCellWidth ≤ length (now image) * 8) ⌝ }
     ensures bits { λ _. ⌜ now (bits .exit) ≡ cellsIn (length (now (bits .entry))) (bitsOf (now (image .entry))) .bits ⌝ }
     ensures tags { λ _. ⌜ now (tags .exit) ≡ cellsIn (length (now (bits .entry))) (bitsOf (now (image .entry))) .tags ⌝ }
 {

@@ -1,11 +1,11 @@
 // The save's part that writes: the head, cell after cell, byte after byte, over zeros.
+use crate::head::cell_number;
 use crate::head::head_of;
-use crate::head::number_of;
 use crate::layout::BYTE_WIDTH;
 use crate::layout::CELL_WIDTH;
 use crate::layout::HEAD_WIDTH;
 use crate::layout::announced;
-use crate::layout::output_from;
+use crate::layout::behind_cells;
 use fields::put;
 use rules::Registers;
 ghost use mathlib.Core.Path.{_≡_};
@@ -26,9 +26,9 @@ fn write_cells(tags: &[u8], bits: &[u32], image: &mut [u8])
     while i < tags.len() {
         put(
             image,
-            output_from(i),
+            behind_cells(i),
             CELL_WIDTH,
-            number_of(tags[i], bits[i]),
+            cell_number(tags[i], bits[i]),
         );
         i += 1;
     }
@@ -60,6 +60,6 @@ pub(crate) fn write_state(
 {
     put(image, 0, HEAD_WIDTH, head_of(r));
     write_cells(tags, bits, image);
-    write_output(output, r.written, image, output_from(r.n));
+    write_output(output, r.written, image, behind_cells(r.n));
     (announced(r.n, r.written) + 7) / 8
 }

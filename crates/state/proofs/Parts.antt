@@ -56,7 +56,7 @@ module _ (p : Program) (r : Registers) (m : Memory) where
   abbrev pub ranges : List Bool
   ranges = rangeTests p r (length (m .cells .bits)) (length (m .cells .tags)) (length (m .history)) (length (m .output))
 
-  sound-parts : sound p r m ≡ (every ranges && soundCells (p .count) (m .cells .tags) (m .cells .bits))
+  pub sound-parts : sound p r m ≡ (every ranges && soundCells (p .count) (m .cells .tags) (m .cells .bits))
   unfolding sound
   sound-parts = simp (and-true, and-assoc)
 

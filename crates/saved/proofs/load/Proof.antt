@@ -11,9 +11,8 @@ use Rattle.rules.specs.State.{Memory, memory}
 use Rattle.rules.specs.SavedState.{Loading}
 use Rattle.rules.specs.declared.Registers.{Registers}
 use Rattle.rules.specs.declared.Resumed.the-variants.{NotGoing}
-use Rattle.rules.proofs.SavedState.{Accepted, load-accepted, load-refused}
-use Rattle.saved.proofs.Complete.{has-head}
-use Rattle.saved.proofs.Verdicts.{taken-bits, taken-tags, taken-written, taken-all, loaded-is}
+use Rattle.rules.proofs.SavedState.{AcceptedLoad, load-accepted, load-refused}
+use Rattle.saved.proofs.Verdicts.{has-head, taken-bits, taken-tags, taken-written, taken-all, loaded-is}
 use Rattle.saved.proofs.load.Statement.{statement}
 use Rattle.saved.proofs.load.Tie as tie
 
@@ -44,27 +43,27 @@ enum-told c = search needs
 abbrev start : tie.After-enum-told → tie.Start
 start c = c .before .before .before .before .before .before .before .before .before .before .before .before .before
 
-accepted : (c : tie.After-enum-told) → Accepted (imageOf (start c)) (programOf (start c)) (lent (start c))
+accepted : (c : tie.After-enum-told) → AcceptedLoad (imageOf (start c)) (programOf (start c)) (lent (start c))
 accepted c =
     load-accepted (imageOf (start c)) (programOf (start c)) (lent (start c)) (sym (c .before .before .verdict .ensures) ∙ c .enum-told .given .1)
 
 registers-in-requires : tie.Need-registers-in-requires
-registers-in-requires c κs = has-head (imageOf (start c)) (length (now (start c .args .history))) (accepted c .complete)
+registers-in-requires c κs = has-head (imageOf (start c)) (programOf (start c)) (lent (start c)) (accepted c .enters)
 
 read-cells-requires : tie.Need-read-cells-requires
 read-cells-requires c κs =
     let at-told = c .before .before .before in
     let s = start at-told in
     let r = c .before .before .registers-in in
-    let bits = taken-bits (imageOf s) (programOf s) (lent s) (accepted at-told) (r .result) (r .ensures .0) in
-    let tags = taken-tags (imageOf s) (programOf s) (lent s) (accepted at-told) (r .result) (r .ensures .0) in
-    (tags ∙ sym bits, omega (arith, bits, r .ensures .1 .0), omega (arith, bits, taken-all (imageOf s) (programOf s) (lent s) (accepted at-told) (r .result) (r .ensures .0)))
+    let bits = taken-bits (imageOf s) (programOf s) (lent s) (accepted at-told .enters) (r .result) (r .ensures .0) in
+    let tags = taken-tags (imageOf s) (programOf s) (lent s) (accepted at-told .enters) (r .result) (r .ensures .0) in
+    (tags ∙ sym bits, omega (arith, bits, r .ensures .1 .0), omega (arith, bits, taken-all (imageOf s) (programOf s) (lent s) (accepted at-told .enters) (r .result) (r .ensures .0)))
 
 clear-places-requires : tie.Need-clear-places-requires
 clear-places-requires c κs = search needs
 
-output-from-requires : tie.Need-output-from-requires
-output-from-requires c κs = search needs
+behind-cells-requires : tie.Need-behind-cells-requires
+behind-cells-requires c κs = search needs
 
 read-output-requires : tie.Need-read-output-requires
 read-output-requires c κs =
@@ -72,11 +71,11 @@ read-output-requires c κs =
     let at-told = at-registers .before in
     let s = start at-told in
     let r = at-registers .registers-in in
-    let here = c .before .output-from .ensures in (
+    let here = c .before .behind-cells .ensures in (
       omega (arith, here, r .ensures .1 .0),
       taken-written (imageOf s) (programOf s) (lent s) (accepted at-told) (r .result) (r .ensures .0),
       r .ensures .1 .1,
-      omega (arith, here, taken-all (imageOf s) (programOf s) (lent s) (accepted at-told) (r .result) (r .ensures .0)),
+      omega (arith, here, taken-all (imageOf s) (programOf s) (lent s) (accepted at-told .enters) (r .result) (r .ensures .0)),
     )
 
 same-length : tie.Need-same-length
@@ -124,7 +123,7 @@ returns-2 c =
     let s = start at-told in
     let r = at-registers .registers-in in
     loaded-is (imageOf s) (programOf s) (lent s) (accepted at-told) (r .result) (r .ensures .0)
-    (at-cells .read-cells .ensures .0) (at-cells .read-cells .ensures .1) (at-places .clear-places .ensures) (at-output .before .before .output-from .ensures) (at-output .read-output .ensures)
+    (at-cells .read-cells .ensures .0) (at-cells .read-cells .ensures .1) (at-places .clear-places .ensures) (at-output .before .before .behind-cells .ensures) (at-output .read-output .ensures)
 
 pub load-spec : {M : Type 1} → statement M
 load-spec =
@@ -137,7 +136,7 @@ load-spec =
     registers-in-requires
     read-cells-requires
     clear-places-requires
-    output-from-requires
+    behind-cells-requires
     read-output-requires
     same-length
     same-length-2

@@ -1,18 +1,16 @@
 -- Each answer by its law. Assumes nothing.
-use Prim.Native.Nat.{ℕ}
-use mathlib.Core.Path.{_≡_, sym, ap, _∙_}
-use mathlib.Core.Bool.{true}
+use mathlib.Core.Path.{_≡_, sym, _∙_}
 use mathlib.Core.List.{List}
+use Prim.Native.Nat.{ℕ}
 use native.Mathlib.Omega.{arith}
 use borrow.Author.Needs.{needs}
 use borrow.Author.Tests.{not-true, not-false}
 use denote.Ref.{now}
-use lib.ListN.{length}
 use Rattle.rules.specs.Table.{Program, program}
 use Rattle.rules.specs.State.{Memory, memory}
-use Rattle.rules.specs.SavedState.{announced}
-use Rattle.saved.proofs.Complete.{completeBeside, beside-any, has-head, has-all}
-use Rattle.saved.proofs.Verdicts.{lentBy, rangedBy, cellsBy, verdict-early, verdict-sizes, verdict-ranges, verdict-cells, verdict-padding, verdict-going}
+use Rattle.rules.specs.declared.Resumed.the-variants.{Going}
+use Rattle.rules.proofs.SavedState.{entryOf}
+use Rattle.saved.proofs.Verdicts.{verdict-entry, has-head, taken-all, verdict-ranges, verdict-padding, verdict-going}
 use Rattle.saved.proofs.verdict.Statement.{statement}
 use Rattle.saved.proofs.verdict.Tie as tie
 
@@ -26,80 +24,38 @@ programOf s = program (now (s .args .table)) (s .args .length)
 abbrev lent : tie.Start → Memory
 lent s = memory (now (s .args .bits)) (now (s .args .tags)) (now (s .args .history)) (now (s .args .output))
 
--- ---- what is so behind each test
+entry-requires : tie.Need-entry-requires
+entry-requires c κs = search needs
 
-abbrev start : tie.Else1 → tie.Start
-start c = c .before .before .before .before .before .before .before .before
+enum-known-refusal : tie.Need-enum-known-refusal
+enum-known-refusal c = search needs
 
-complete : (c : tie.Else1) → completeBeside (imageOf (start c)) 0 ≡ true
-complete c = sym (c .before .is-complete .ensures) ∙ not-false _ (c .if1 .left)
+enum-told : tie.Need-enum-told
+enum-told c = search needs
 
-abbrev at1 : tie.Else2 → tie.Else1
-at1 c = c .before .before .before
+-- ---- where neither 41 nor 67 is given
 
-fits : (c : tie.Else2) → lentBy (c .before .before .registers-in .result) (lent (start (at1 c))) ≡ true
-fits c = sym (c .before .has-lent-sizes .ensures) ∙ not-false _ (c .if2 .left)
+abbrev start : tie.After-enum-told → tie.Start
+start c = c .before .before .before .before .before .before .before .before .before
 
-abbrev at2 : tie.Else3 → tie.Else2
-at2 c = c .before .before
+going : (c : tie.After-enum-told) → entryOf (imageOf (start c)) (programOf (start c)) (lent (start c)) ≡ Going
+going c = sym (c .before .before .entry .ensures) ∙ c .enum-told .given .1
 
-ranged : (c : tie.Else3) → rangedBy (programOf (start (at1 (at2 c)))) (at2 c .before .before .registers-in .result) (lent (start (at1 (at2 c)))) ≡ true
-ranged c = sym (c .before .is-in-range .ensures) ∙ not-false _ (c .if3 .left)
+registers-in-requires : tie.Need-registers-in-requires
+registers-in-requires c κs = has-head (imageOf (start c)) (programOf (start c)) (lent (start c)) (going c)
 
-abbrev at3 : tie.Else4 → tie.Else3
-at3 c = c .before .before
-
-sound : (c : tie.Else4) → cellsBy (imageOf (start (at1 (at2 (at3 c))))) (programOf (start (at1 (at2 (at3 c))))) (at2 (at3 c) .before .before .registers-in .result) ≡ true
-sound c = sym (c .before .are-sound-cells-in .ensures) ∙ not-false _ (c .if4 .left)
-
-is-complete-requires : tie.Need-is-complete-requires
-is-complete-requires c κs = search needs
+is-sound-in-requires : tie.Need-is-sound-in-requires
+is-sound-in-requires c κs =
+    let s = start (c .before) in
+    let r = c .registers-in in
+    (r .ensures .1 .0, omega (arith, taken-all (imageOf s) (programOf s) (lent s) (going (c .before)) (r .result) (r .ensures .0)))
 
 returns : tie.Need-returns
 returns c =
-    let s = c .before .before .before .before .before .before .before .before in
-    verdict-early (imageOf s) (programOf s) (lent s) (sym (c .before .is-complete .ensures) ∙ not-true _ (c .if1 .taken))
-
-registers-in-requires : tie.Need-registers-in-requires
-registers-in-requires c κs = has-head (imageOf (start c)) 0 (complete c)
-
-has-lent-sizes-requires : tie.Need-has-lent-sizes-requires
-has-lent-sizes-requires c κs = search needs
-
-returns-2 : tie.Need-returns-2
-returns-2 c =
-    let at-complete = c .before .before .before in
-    let s = start at-complete in
-    let r = c .before .before .registers-in in
-    verdict-sizes (imageOf s) (programOf s) (lent s) (complete at-complete) (r .result) (r .ensures .0) (sym (c .before .has-lent-sizes .ensures) ∙ not-true _ (c .if2 .taken))
-
-is-in-range-requires : tie.Need-is-in-range-requires
-is-in-range-requires c κs = search needs
-
-returns-3 : tie.Need-returns-3
-returns-3 c =
-    let at-fits = c .before .before in
-    let at-complete = at1 at-fits in
-    let s = start at-complete in
-    let r = at-fits .before .before .registers-in in
-    verdict-ranges (imageOf s) (programOf s) (lent s) (complete at-complete) (r .result) (r .ensures .0) (fits at-fits) (sym (c .before .is-in-range .ensures) ∙ not-true _ (c .if3 .taken))
-
-are-sound-cells-in-requires : tie.Need-are-sound-cells-in-requires
-are-sound-cells-in-requires c κs =
-    let at-fits = at2 c in
-    let s = start (at1 at-fits) in
-    let r = at-fits .before .before .registers-in in
-    let all = has-all (imageOf s) (length (now (s .args .history))) (sym (beside-any (imageOf s) _) ∙ complete (at1 at-fits)) in
-    (r .ensures .1 .0, omega (arith, all, ap announced (r .ensures .0)))
-
-returns-4 : tie.Need-returns-4
-returns-4 c =
-    let at-ranged = c .before .before in
-    let at-fits = at2 at-ranged in
-    let s = start (at1 at-fits) in
-    let r = at-fits .before .before .registers-in in
-    verdict-cells (imageOf s) (programOf s) (lent s) (complete (at1 at-fits)) (r .result) (r .ensures .0) (fits at-fits) (ranged at-ranged)
-    (sym (c .before .are-sound-cells-in .ensures) ∙ not-true _ (c .if4 .taken))
+    let at-registers = c .before .before in
+    let s = start (at-registers .before) in
+    let r = at-registers .registers-in in
+    verdict-ranges (imageOf s) (programOf s) (lent s) (going (at-registers .before)) (r .result) (r .ensures .0) (sym (c .before .is-sound-in .ensures) ∙ not-true _ (c .if1 .taken))
 
 announced-requires : tie.Need-announced-requires
 announced-requires c κs = search needs
@@ -107,38 +63,42 @@ announced-requires c κs = search needs
 is-padded-requires : tie.Need-is-padded-requires
 is-padded-requires c κs = search needs
 
-returns-5 : tie.Need-returns-5
-returns-5 c =
+returns-2 : tie.Need-returns-2
+returns-2 c =
     let at-sound = c .before .before .before in
-    let at-fits = at2 (at3 at-sound) in
-    let s = start (at1 at-fits) in
-    let r = at-fits .before .before .registers-in in
-    verdict-padding (imageOf s) (programOf s) (lent s) (complete (at1 at-fits)) (r .result) (r .ensures .0) (fits at-fits) (ranged (at3 at-sound)) (sound at-sound) _
-    (c .before .before .announced .ensures) (sym (c .before .is-padded .ensures) ∙ not-true _ (c .if5 .taken))
+    let at-registers = at-sound .before .before in
+    let s = start (at-registers .before) in
+    let r = at-registers .registers-in in
+    verdict-padding (imageOf s) (programOf s) (lent s) (going (at-registers .before)) (r .result) (r .ensures .0) (sym (at-sound .before .is-sound-in .ensures) ∙ not-false _ (at-sound .if1 .left)) _
+    (c .before .before .announced .ensures) (sym (c .before .is-padded .ensures) ∙ not-true _ (c .if2 .taken))
 
-returns-6 : tie.Need-returns-6
-returns-6 c =
+returns-3 : tie.Need-returns-3
+returns-3 c =
+    let at-refusal = c .before in
+    let s = at-refusal .before .before .before .before .before .before .before .before .before in
+    verdict-entry (imageOf s) (programOf s) (lent s) (at-refusal .refusal .given .0 .0) (sym (at-refusal .before .before .entry .ensures) ∙ at-refusal .refusal .given .1)
+
+returns-4 : tie.Need-returns-4
+returns-4 c =
     let at-sound = c .before .before .before in
-    let at-fits = at2 (at3 at-sound) in
-    let s = start (at1 at-fits) in
-    let r = at-fits .before .before .registers-in in
-    verdict-going (imageOf s) (programOf s) (lent s) (complete (at1 at-fits)) (r .result) (r .ensures .0) (fits at-fits) (ranged (at3 at-sound)) (sound at-sound) _
-    (c .before .before .announced .ensures) (sym (c .before .is-padded .ensures) ∙ not-false _ (c .if5 .left))
+    let at-registers = at-sound .before .before in
+    let s = start (at-registers .before) in
+    let r = at-registers .registers-in in
+    verdict-going (imageOf s) (programOf s) (lent s) (going (at-registers .before)) (r .result) (r .ensures .0) (sym (at-sound .before .is-sound-in .ensures) ∙ not-false _ (at-sound .if1 .left)) _
+    (c .before .before .announced .ensures) (sym (c .before .is-padded .ensures) ∙ not-false _ (c .if2 .left))
 
 pub verdict-spec : {M : Type 1} → statement M
 verdict-spec =
     tie.close
     (tie.spec
-    is-complete-requires
-    returns
+    entry-requires
+    enum-known-refusal
+    enum-told
     registers-in-requires
-    has-lent-sizes-requires
-    returns-2
-    is-in-range-requires
-    returns-3
-    are-sound-cells-in-requires
-    returns-4
+    is-sound-in-requires
+    returns
     announced-requires
     is-padded-requires
-    returns-5
-    returns-6)
+    returns-2
+    returns-3
+    returns-4)

@@ -1,31 +1,27 @@
 -- `sam_load` meets its contract: what the load answers and leaves. Assumes nothing.
 use Prim.Native.Nat.{ℕ}
-use mathlib.Core.Path.{sym, ap, ap₂, _∙_}
+use mathlib.Core.Path.{sym, ap, _∙_}
 use Rattle.rules.specs.State.{memory}
-use Rattle.sam_c.specs.Calls.{moved, notLoadedInto, complete, takenIn, registerCount}
+use Rattle.sam_c.specs.Calls.{moved, notRegistersLoaded, registerCount}
 use Rattle.sam_c.proofs.Lent.{of-another}
-use Rattle.sam_c.proofs.Called.{load-called, not-loaded-by}
+use Rattle.sam_c.proofs.Called.{load-called}
 use borrow.Author.Needs.{needs}
 use Rattle.sam_c.proofs.load.sam_load.Statement.{statement}
 use Rattle.sam_c.proofs.load.sam_load.Tie as tie
 
-is-complete-requires : tie.Need-is-complete-requires
-is-complete-requires c κs = search needs
+entry-requires : tie.Need-entry-requires
+entry-requires c κs = search needs
 
-takes-in-requires : tie.Need-takes-in-requires
-takes-in-requires c κs = search needs
-
-not-loaded-requires : tie.Need-not-loaded-requires
-not-loaded-requires c κs = search needs
+refused-load-requires : tie.Need-refused-load-requires
+refused-load-requires c κs = search needs
 
 returns : tie.Need-returns
 returns c =
-    let at-if1 = c .before .before .before in
+    let at-if1 = c .before .before in
     let start = at-if1 .before .before .before .before .before .before .before .before in
     let a = start .args in
-    let m = memory (a .bits .now) (a .tags .now) (a .history .now) (a .output .now) in
-    ap (λ (k : ℕ). moved k (a .registers .now) m)
-    (c .not-loaded .ensures ∙ ap₂ notLoadedInto (c .before .before .is-complete .ensures) (c .before .takes-in .ensures) ∙ not-loaded-by (complete (a .image .now)) (takenIn (a .image .now) m))
+    ap (λ (k : ℕ). moved k (a .registers .now) (memory (a .bits .now) (a .tags .now) (a .history .now) (a .output .now)))
+    (c .refused-load .ensures ∙ ap notRegistersLoaded (c .before .entry .ensures))
     ∙ sym (of-another registerCount (a .registers .now) _ _ (at-if1 .if1 .taken))
 
 load-requires : tie.Need-load-requires
@@ -67,9 +63,8 @@ pub sam-load-spec : {M : Type 1} → statement M
 sam-load-spec =
     tie.close
     (tie.spec
-    is-complete-requires
-    takes-in-requires
-    not-loaded-requires
+    entry-requires
+    refused-load-requires
     returns
     load-requires
     write-requires

@@ -5,7 +5,7 @@ use Rattle.rules.specs.Table.{program}
 use Rattle.rules.specs.State.{memory}
 use Rattle.rules.specs.SavedState.{save}
 use Rattle.rules.specs.declared.Registers.{Registers}
-use Rattle.sam_c.specs.Calls.{filled, notSavedFrom, registerCount}
+use Rattle.sam_c.specs.Calls.{filled, notRegistersSaved, registerCount}
 use Rattle.sam_c.proofs.Lent.{of-length, of-another}
 use Rattle.sam_c.proofs.Called.{untold-by, save-called}
 use borrow.Author.Needs.{needs}
@@ -31,8 +31,8 @@ tell-requires c κs = search needs
 blank-bytes-requires-2 : tie.Need-blank-bytes-requires-2
 blank-bytes-requires-2 c κs = search needs
 
-not-saved-requires : tie.Need-not-saved-requires
-not-saved-requires c κs = search needs
+refused-save-requires : tie.Need-refused-save-requires
+refused-save-requires c κs = search needs
 
 same-length-2 : tie.Need-same-length-2
 same-length-2 c = search needs
@@ -49,7 +49,7 @@ returns-2 c =
     let start = at-if1 .before .before .before .before .before .before .before .before .before in
     let a = start .args in
     let blank = at-blank .blank-bytes2 in
-    (λ i. filled ((c .not-saved .ensures ∙ ap notSavedFrom (blank .kept .0)) i) (at-tell .tell .ensures i) (blank .ensures i))
+    (λ i. filled ((c .refused-save .ensures ∙ ap notRegistersSaved (blank .kept .0)) i) (at-tell .tell .ensures i) (blank .ensures i))
     ∙ sym (of-another registerCount (a .registers .now) _ _ (at-if2 .if2 .taken))
     ∙ sym (of-length 1 (a .told .now) _ _ (at-if1 .if1 .left))
 
@@ -101,7 +101,7 @@ sam-save-spec =
     returns
     tell-requires
     blank-bytes-requires-2
-    not-saved-requires
+    refused-save-requires
     same-length-2
     same-length-3
     returns-2

@@ -11,7 +11,7 @@ use lib.Seq.{take-all}
 use Rattle.rules.specs.Lists.{splice}
 use Rattle.rules.specs.Sizes.{stateSize}
 use Rattle.rules.specs.Fields.{field, bitsOf, side}
-use Rattle.rules.specs.SavedState.{headWidth, savedLayout, savedWidth, cellsSaved}
+use Rattle.rules.specs.SavedState.{headWidth, savedCellLayout, savedCellWidth, cellsSaved}
 use Rattle.rules.proofs.Fields.{bitsOf-length}
 use Rattle.rules.proofs.Layouts.{laid-out}
 use Rattle.rules.proofs.Splice.{splice-none}
@@ -31,21 +31,21 @@ loop-holds c =
     let a = c .before .before .before .args in
     (omega arith, c .before .before .before .pre .2, sym (splice-none (bitsOf (now (a .image))) headWidth))
 
-output-from-requires : tie.Need-output-from-requires Inv-loop μ-loop
-output-from-requires c κs = omega (arith, c .before .before .loop .inv .0, c .before .before .before .before .before .before .pre .1)
+behind-cells-requires : tie.Need-behind-cells-requires Inv-loop μ-loop
+behind-cells-requires c κs = omega (arith, c .before .before .loop .inv .0, c .before .before .before .before .before .before .pre .1)
 
-shared-slice-read-number-of : tie.Need-shared-slice-read-number-of Inv-loop μ-loop
-shared-slice-read-number-of c = search needs
+shared-slice-read-cell-number : tie.Need-shared-slice-read-cell-number Inv-loop μ-loop
+shared-slice-read-cell-number c = search needs
 
-mul-number-of : tie.Need-mul-number-of Inv-loop μ-loop
-mul-number-of c = search needs
+mul-cell-number : tie.Need-mul-cell-number Inv-loop μ-loop
+mul-cell-number c = search needs
 
-shared-slice-read-number-of-2 : tie.Need-shared-slice-read-number-of-2 Inv-loop μ-loop
-shared-slice-read-number-of-2 c =
+shared-slice-read-cell-number-2 : tie.Need-shared-slice-read-cell-number-2 Inv-loop μ-loop
+shared-slice-read-cell-number-2 c =
     omega (arith, c .before .before .before .before .loop-test .taken, c .before .before .before .before .before .before .before .before .before .pre .0)
 
-number-of-requires : tie.Need-number-of-requires Inv-loop μ-loop
-number-of-requires c κs = search needs
+cell-number-requires : tie.Need-cell-number-requires Inv-loop μ-loop
+cell-number-requires c κs = search needs
 
 put-requires : tie.Need-put-requires Inv-loop μ-loop
 put-requires c κs = search needs
@@ -67,14 +67,14 @@ loop-again c =
     let bs : List ℕ = now (a .bits) in
     let z : List ℕ = bitsOf (now (a .image)) in
     let f : List ℕ = cellsSaved (take (t .i) ts) (take (t .i) bs) in
-    let g : List ℕ = side savedLayout (getD ts (t .i) 0 ∷ getD bs (t .i) 0 ∷ []) in
-    let lf : length f ≡ t .i * savedWidth = cells-so-far ts bs (t .i) (s .pre .0) (t .inv .0) in
+    let g : List ℕ = side savedCellLayout (getD ts (t .i) 0 ∷ getD bs (t .i) 0 ∷ []) in
+    let lf : length f ≡ t .i * savedCellWidth = cells-so-far ts bs (t .i) (s .pre .0) (t .inv .0) in
     let lz : length z ≡ stateSize * 8 = bitsOf-length (now (a .image)) ∙ ap (λ (k : ℕ). k * 8) (s .pre .2) in (
       omega (arith, test),
       put .kept .0 ∙ t .inv .1,
-      written-behind z (bitsOf (t .image)) _ f g headWidth _ savedWidth _ (lit≤ tt)
-          (c .before .before .before .before .before .before .output-from .ensures ∙ omega (arith, lf)) (omega (arith, lf, lz, test, s .pre .1))
-          (ap (field savedWidth) (c .before .before .before .number-of .ensures) ∙ laid-out savedLayout (getD ts (t .i) 0 ∷ getD bs (t .i) 0 ∷ []))
+      written-behind z (bitsOf (t .image)) _ f g headWidth _ savedCellWidth _ (lit≤ tt)
+          (c .before .before .before .before .before .before .behind-cells .ensures ∙ omega (arith, lf)) (omega (arith, lf, lz, test, s .pre .1))
+          (ap (field savedCellWidth) (c .before .before .before .cell-number .ensures) ∙ laid-out savedCellLayout (getD ts (t .i) 0 ∷ getD bs (t .i) 0 ∷ []))
           (t .inv .2) (put .ensures)
           ∙ ap (splice z headWidth) (sym (cells-more ts bs (t .i) (s .pre .0) test)),
     )
@@ -99,11 +99,11 @@ write-cells-spec =
     Inv-loop
     μ-loop
     loop-holds
-    output-from-requires
-    shared-slice-read-number-of
-    mul-number-of
-    shared-slice-read-number-of-2
-    number-of-requires
+    behind-cells-requires
+    shared-slice-read-cell-number
+    mul-cell-number
+    shared-slice-read-cell-number-2
+    cell-number-requires
     put-requires
     add-i
     loop-less

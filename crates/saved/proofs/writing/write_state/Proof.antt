@@ -27,15 +27,15 @@ write-cells-requires c κs =
     let s = c .before .before .before .before .before .before .before .before .before .before in
     (s .pre .0 ∙ sym (s .pre .1), omega (arith, s .pre .0, s .pre .2), c .before .before .before .put .kept .0 ∙ blank s)
 
-output-from-requires : tie.Need-output-from-requires
-output-from-requires c κs = search needs
+behind-cells-requires : tie.Need-behind-cells-requires
+behind-cells-requires c κs = search needs
 
 write-output-requires : tie.Need-write-output-requires
 write-output-requires c κs =
     let s = c .before .before .before .before .before .before .before .before .before .before .before .before .before .before .before in (
       s .pre .3,
       s .pre .4,
-      omega (arith, c .output-from .ensures, s .pre .2, s .pre .4),
+      omega (arith, c .behind-cells .ensures, s .pre .2, s .pre .4),
       c .before .before .before .before .write-cells .kept .1 .1 .0 ∙ c .before .before .before .before .before .before .before .before .put .kept .0 ∙ blank s,
     )
 
@@ -58,7 +58,7 @@ returns c =
     let at-put = at-cells .before .before .before .before in (
       state-written (a .r) lent (now (a .output)) (now (a .image)) _ _ _ _ _ (s .pre .0) (s .pre .1) (s .pre .2) (s .pre .5)
           (at-bytes .write-output .kept .1 .1 .0 ∙ at-cells .write-cells .kept .1 .1 .0 ∙ at-put .put .kept .0 ∙ blank s) (λ k. c .before .slice-known4 .given k .fits)
-          (at-put .before .head-of .ensures) (at-put .put .ensures) (at-cells .write-cells .ensures) (at-bytes .before .output-from .ensures) (at-bytes .write-output .ensures),
+          (at-put .before .head-of .ensures) (at-put .put .ensures) (at-cells .write-cells .ensures) (at-bytes .before .behind-cells .ensures) (at-bytes .write-output .ensures),
       ap (λ (k : ℕ). (k + 7) / 8) (c .announced .ensures ∙ sym (state-length (a .r) lent (now (a .output)) (s .pre .0) (s .pre .1) (s .pre .3))),
     )
 
@@ -69,7 +69,7 @@ write-state-spec =
     head-of-requires
     put-requires
     write-cells-requires
-    output-from-requires
+    behind-cells-requires
     write-output-requires
     announced-requires
     add-result
