@@ -107,5 +107,5 @@ use Rattle.promises.proofs.Demand3Load.{load-sized}
 -- "Saving and loading again keeps cells, tags, written output and registers, except that U and the kept number become 0 and H is the lent history's."
 use Rattle.promises.proofs.Carried.{carried-over}
 -- "only with the same one does the saved session go on": step by step as the first does, until one of them has no room in its history
-use Rattle.promises.proofs.GoesOn.{goes-on, session-goes-on}
+use Rattle.promises.proofs.GoesOn.{goes-on, whole-output, session-goes-on}
 use Rattle.rules.specs.Carryings.{all-carried}

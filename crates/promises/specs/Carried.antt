@@ -7,7 +7,7 @@ use mathlib.Core.List.{List, _++_}
 use lib.ListN.{length, getD, take, drop, replicate}
 use Rattle.rules.specs.Sizes.{maxHistory, maxOutput, stateSize}
 use Rattle.rules.specs.Table.{Program}
-use Rattle.rules.specs.State.{Memory, registersHolding}
+use Rattle.rules.specs.State.{Memory, registersHolding, others}
 use Rattle.rules.specs.Numbers.{machineNumber, numberOfStep, lengthOfSaved}
 use Rattle.rules.specs.Step as Step
 use Rattle.rules.specs.SavedState.{Saving, save, load}
@@ -16,8 +16,7 @@ use Rattle.rules.specs.declared.MachineRefusal.the-variants.{HistoryFull}
 use Rattle.rules.specs.declared.Step.{Step}
 use Rattle.rules.specs.declared.Saved.the-variants.{Bytes}
 use Rattle.rules.specs.declared.Resumed.the-variants.{Going}
-use Rattle.promises.specs.Series.{State, stateOf, leftByLoad, fresh, afresh}
-use Rattle.promises.specs.Agrees.{Alike}
+use Rattle.promises.specs.Series.{State, stateOf, leftByLoad, afresh}
 
 -- ---- saving and loading again
 
@@ -63,7 +62,7 @@ pub record CarriedOver (p : Program) (r : Registers) (m : Memory) (image : List 
 
 -- ---- the saved session goes on
 
--- nothing stands behind the bytes that are written, as in every session
+-- nothing stands behind the bytes that are written, as in every session: so a load leaves the whole output as it was
 abbrev pub Unwritten : Registers → Memory → Type 0
 Unwritten r m = drop (r .written) (m .output) ≡ replicate (length (m .output) - r .written) 0
 
@@ -78,11 +77,17 @@ NotEight a = numberOfStep a ≡ machineNumber HistoryFull → ⊥
 abbrev pub RoomAfter : Program → State → ℕ → Type 0
 RoomAfter p o i = NotEight (answerAfter p o i)
 
--- the same cells, tags and output, and the same registers but for H, U and the kept number
-abbrev pub SameShown : (s t : State) → Type 0
-SameShown s t = Alike (fresh t) s
+-- the same cells and tags, the same registers but for H, U and the kept number, and the same bytes written in outputs of one length
+pub record SameShown (s t : State) : Type 0 where
+  pub cells : s .memory .cells ≡ t .memory .cells
+  pub registers : others (s .registers) ≡ others (t .registers)
+  pub size : length (s .memory .output) ≡ length (t .memory .output)
+  pub written : take (s .registers .written) (s .memory .output) ≡ take (s .registers .written) (t .memory .output)
 
--- what is promised of two machines: until one of them answers 8, they show the same after each step, and answer it alike
+-- what is promised of two machines: until one of them answers 8, they show the same after each step, the whole output where they began with the same, and answer it
+-- alike
 pub record GoesOn (p : Program) (s t : State) : Type 0 where
   pub shown : (k : ℕ) → ((i : ℕ) → i < k → RoomAfter p s i × RoomAfter p t i) → SameShown (stateOf (afresh p s k)) (stateOf (afresh p t k))
+  pub outputs : s .memory .output ≡ t .memory .output → (k : ℕ) → ((i : ℕ) → i < k → RoomAfter p s i × RoomAfter p t i)
+      → afresh p s k .memory .output ≡ afresh p t k .memory .output
   pub answers : (k : ℕ) → ((i : ℕ) → i ≤ k → RoomAfter p s i × RoomAfter p t i) → numberOfStep (answerAfter p s k) ≡ numberOfStep (answerAfter p t k)
