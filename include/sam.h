@@ -1,7 +1,8 @@
 /* The SaM machine for C: every call of the proved library, with numbers and lent memory only.
  *
  * Link target/staticlib/libsam_c.a. Every call gives a number of document 01, with what requests a (24, 33), d (6),
- * e (5, 25, 33), f (60 to 63), g (10), h (10, 11, 12, 43), i (10, 14), j (11, 64 to 66) and k (10, 41, 45, 67) add:
+ * e (5, 25, 33), f (60 to 63), g (10), h (10, 11, 12, 43), i (10, 14), j (11, 64 to 66), k (10, 41, 45, 67) and l (6)
+ * add:
  *
  *    0  done, or a run found HALT 1
  *    1  step with HALT 1
@@ -9,14 +10,15 @@
  *    3  fewer values than needed, or ADDSP below 0
  *    4  a value has a tag the instruction does not take
  *    5  DIV or MOD by zero, CMPF with a NaN, or FTOI of a NaN or with a result outside INT
- *    6  address outside the instruction's range, or ADD or SUB of an MA that leaves 32 bits
+ *    6  address outside the instruction's range, or ADD or SUB of an MA that leaves 32 bits; at a why a cell not below
+ *       N
  *    7  new SP would be N or more
  *    8  H above 0 and fewer than (cells written + 1) places free
  *    9  step-back with U = 0
  *   10  broken state or table; a kept number above U, or 0 with U above 0, is a broken state, and so is an output above
- *       256 bytes or a written count above its length; at a forget also a used record that is not well formed, or a
- *       kept number other than that of the records in use; at a load it is said of what the image holds, and a written
- *       count above the lent output is 10 too
+ *       256 bytes or a written count above its length; at a forget and a why also a used record that is not well
+ *       formed, or a kept number other than that of the records in use; at a load it is said of what the image holds,
+ *       and a written count above the lent output is 10 too
  *   11  at reset N, H or the output outside the sizes below, or cells and tags of unequal count; at a run a limit above
  *       1,000,000; at a depth list N outside the sizes below
  *   12  WRITECH with a full output; it comes after 7 and before 8
@@ -91,7 +93,8 @@ enum {
     SAM_DWELL_STACK = 512,
     SAM_DEPTHS_STACK = 256,
     SAM_SAVE_STACK = 512,
-    SAM_LOAD_STACK = 512
+    SAM_LOAD_STACK = 512,
+    SAM_WHY_STACK = 512
 };
 
 /* The registers are a lent slice of nine. Registers of another length are a 10 in 10's place, so after 11 at a reset
@@ -106,6 +109,10 @@ enum { SAM_INT, SAM_FLOAT, SAM_MA, SAM_PA, SAM_CH };
 /* What assemble tells: the program's length; and where a refusal stands in the source, by its place, a count of bytes
  * from 0, and by its line and column, both from 1. A line ends with LF; a column counts bytes, CR among them. */
 enum { SAM_LENGTH, SAM_PLACE, SAM_LINE, SAM_COLUMN, SAM_ASSEMBLE_TOLD };
+
+/* What why tells: 1 where a step is named, else 0; how many steps back it is, 1 for the newest; its PC; the instruction
+ * there, as its table place; and what the cell held before it, tag and bits. */
+enum { SAM_FOUND, SAM_STEPS_BACK, SAM_STEP_PC, SAM_INSTRUCTION, SAM_OLD_TAG, SAM_OLD_BITS, SAM_WHY_TOLD };
 
 /* Assembles a source into a table of 1,024 places. told[4]: length, place, line, column; the last three are 0 where it
  * is done, and with 31 for the table and 21. */
@@ -167,6 +174,16 @@ uint32_t sam_dwell(const uint64_t *table, size_t places, uint64_t length, const 
                    size_t registers_len, const uint32_t *bits, size_t n, const uint8_t *tags, size_t tags_len,
                    const uint64_t *history, size_t h, const uint8_t *output, size_t output_len, uint64_t *told,
                    size_t told_len);
+
+/* Tells why a cell holds what it holds: names the newest of the steps that can be taken back which wrote the cell, and
+ * writes nothing but told. A step that wrote what the cell held already wrote it. Any cell below N may be asked, at SP
+ * and above too. 10 as for a forget, then 6 where the cell is not below N. told[6]: found, steps back, PC, the table's
+ * place at that PC, old tag, old bits. All six are 0 where no step that can be taken back wrote the cell, which is no
+ * refusal, and where it is refused. */
+uint32_t sam_why(const uint64_t *table, size_t places, uint64_t length, uint64_t cell, const uint64_t *registers,
+                 size_t registers_len, const uint32_t *bits, size_t n, const uint8_t *tags, size_t tags_len,
+                 const uint64_t *history, size_t h, const uint8_t *output, size_t output_len, uint64_t *told,
+                 size_t told_len);
 
 /* Judges a list of stack depths that comes beside a program, for a machine of n cells, and writes nothing but told. It
  * is accepted (0) exactly if the program has no JSR, JSRIND, JUMPIND or POPSP, place 0 has depth 0, every place with a

@@ -49,24 +49,17 @@ pub fn forget(
 ) -> Forgot
     ensures { λ a. ⌜ forgot a (now (bits .entry)) (now (tags .entry)) (now (history .exit)) (now (output .entry)) ≡ forget (program (now (table .entry)) length) k r (memory (now (bits .entry)) (now (tags .entry)) (now (history .entry)) (now (output .entry))) ⌝ }
 {
-    let sound = state::is_sound(table, length, r, bits, tags, history, output);
-    if !sound {
-        return Forgot::NotForgotten(ForgetRefusal::RecordsBroken);
-    }
     let used = r.used;
     let kept = r.kept;
     let stay = steps_left(kept, k);
-    let walk = records::walk_down(history, used, r.n, length, stay);
-    if !walk.formed {
-        return Forgot::NotForgotten(ForgetRefusal::RecordsBroken);
-    }
-    if kept != walk.records {
+    let judged = records::judge(table, length, r, bits, tags, history, output, stay);
+    if !judged.sound {
         return Forgot::NotForgotten(ForgetRefusal::RecordsBroken);
     }
     if kept < k {
         return Forgot::NotForgotten(ForgetRefusal::TooManySteps);
     }
-    let free = walk.below;
+    let free = judged.below;
     let left = used - free;
     move_down(history, free, used);
     Forgot::Forgotten(Registers {

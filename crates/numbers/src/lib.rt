@@ -13,6 +13,8 @@ use rules::Listed;
 use rules::LoadRefusal;
 use rules::MachineRefusal;
 use rules::NO_POSITION;
+use rules::NO_STEP;
+use rules::NamedStep;
 use rules::Packed;
 use rules::Position;
 use rules::Resumed;
@@ -20,8 +22,10 @@ use rules::SaveRefusal;
 use rules::Saved;
 use rules::Step;
 use rules::TextRefusal;
+use rules::Why;
+use rules::WhyRefusal;
 ghost use mathlib.Core.Path.{_≡_};
-ghost use Rattle.rules.specs.Numbers.{machineNumber, textNumber, imageNumber, numberOfReset, numberOfStep, numberOfEnding, numberOfAssembled, lengthOfAssembled, positionOfAssembled, numberOfListed, lengthOfListed, numberOfPacked, lengthOfPacked, unreadNumber, numberOfDwell, tenthsOfDwell, forgetNumber, numberOfForgot, depthNumber, numberOfChecked, placeOfChecked, saveNumber, numberOfSaved, lengthOfSaved, loadNumber, numberOfLoad};
+ghost use Rattle.rules.specs.Numbers.{machineNumber, textNumber, imageNumber, numberOfReset, numberOfStep, numberOfEnding, numberOfAssembled, lengthOfAssembled, positionOfAssembled, numberOfListed, lengthOfListed, numberOfPacked, lengthOfPacked, unreadNumber, numberOfDwell, tenthsOfDwell, forgetNumber, numberOfForgot, depthNumber, numberOfChecked, placeOfChecked, saveNumber, numberOfSaved, lengthOfSaved, loadNumber, numberOfLoad, unnamedNumber, numberOfWhy, foundOfWhy, stepOfWhy};
 
 // The number of a refusal of the machine: 1 to 12.
 pub fn machine_number(e: MachineRefusal) -> u32
@@ -134,6 +138,16 @@ pub fn load_number(e: LoadRefusal) -> u32
         LoadRefusal::StateEndsEarly => 41,
         LoadRefusal::StatePadding => 45,
         LoadRefusal::OtherSizes => 67,
+    }
+}
+
+// The number of a refusal of a why: 6 and 10.
+pub fn unnamed_number(e: WhyRefusal) -> u32
+    ensures { λ r. ⌜ r ≡ unnamedNumber e ⌝ }
+{
+    match e {
+        WhyRefusal::NoSuchCell => 6,
+        WhyRefusal::HistoryBroken => 10,
     }
 }
 
@@ -308,5 +322,36 @@ pub fn resumed_number(resumed: Resumed) -> u32
     match resumed {
         Resumed::Going => 0,
         Resumed::NotGoing(e) => load_number(e),
+    }
+}
+
+// The number of a why's answer; 1 where it names a step, else 0; and the step.
+pub fn why_number(why: Why) -> u32
+    ensures { λ r. ⌜ r ≡ numberOfWhy why ⌝ }
+{
+    match why {
+        Why::Named(_) => 0,
+        Why::NoKeptStep => 0,
+        Why::NotNamed(e) => unnamed_number(e),
+    }
+}
+
+pub fn why_found(why: Why) -> usize
+    ensures { λ r. ⌜ r ≡ foundOfWhy why ⌝ }
+{
+    match why {
+        Why::Named(_) => 1,
+        Why::NoKeptStep => 0,
+        Why::NotNamed(_) => 0,
+    }
+}
+
+pub fn why_step(why: Why) -> NamedStep
+    ensures { λ r. ⌜ r ≡ stepOfWhy why ⌝ }
+{
+    match why {
+        Why::Named(step) => step,
+        Why::NoKeptStep => NO_STEP,
+        Why::NotNamed(_) => NO_STEP,
     }
 }

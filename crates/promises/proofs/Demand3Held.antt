@@ -8,7 +8,7 @@ use native.Mathlib.Omega.{arith}
 use lib.Dec.{ltb, leb}
 use lib.ListN.{length, take, drop, replicate, length-append, length-replicate}
 use lib.Seq.{drop-at, length-take-le}
-use borrow.Author.Tests.{le-leb, leb-true, eq-eqb}
+use borrow.Author.Tests.{le-leb, leb-true, leb-false}
 use Rattle.rules.specs.Lists.{every}
 use Rattle.rules.specs.Sizes.{maxHistory}
 use Rattle.rules.specs.Table.{Program}
@@ -16,9 +16,9 @@ use Rattle.rules.specs.State.{Memory, registersHolding, sound}
 use Rattle.rules.specs.Commit.{recordOf, grown, historyAfter, outputAfter, registersWith, cellsAfter, roomIn}
 use Rattle.rules.specs.Step.{judged, unchanged}
 use Rattle.rules.specs.Back.{back}
-use Rattle.rules.specs.Records.{HistoryRecord, recordsInUse, placesOf}
+use Rattle.rules.specs.Records.{HistoryRecord, recordsInUse, recordTests, placesOf}
 use Rattle.rules.specs.Forget as Forget
-use Rattle.rules.specs.Forget.{recordTests, movedDown, notForgotten}
+use Rattle.rules.specs.Forget.{movedDown, notForgotten}
 use Rattle.rules.specs.declared.Registers.{Registers}
 use Rattle.rules.specs.declared.Effect.{Effect}
 use Rattle.rules.specs.declared.Decision.the-variants.{Does}
@@ -31,7 +31,8 @@ use Rattle.rules.proofs.FairEffects.{sound-facts}
 use Rattle.rules.proofs.Sound.{length-record}
 use Rattle.rules.proofs.Inverse.{inverse}
 use Rattle.rules.proofs.Room.{judged-others}
-use Rattle.rules.proofs.Records.{AllFormed, fewer-than-places, places-split, more-places, fewer-places, CutTo, cut-places}
+use Rattle.rules.proofs.Forgetting.{forget-too-many, forget-done}
+use Rattle.rules.proofs.Records.{records-pass, AllFormed, fewer-than-places, places-split, more-places, fewer-places, CutTo, cut-places}
 use Rattle.promises.specs.Unbounded.{Unbounded, moves, decided}
 use Rattle.promises.specs.Series.{State, plain}
 use Rattle.promises.proofs.Demand3Good.{Good, committed, back-empty, sound-beside}
@@ -173,7 +174,7 @@ module _ (p : Program) (h : ℕ) (short : h ≤ maxHistory) where
     cuts = cut-places (x .registers .n) (p .count) ls formed (replicate (h - length (placesOf ls)) 0)
 
     tests : every (recordTests p (held h ls x .registers) (held h ls x .memory)) ≡ true
-    tests = simp (good .sound, cuts .formed, eq-eqb (length ls) (length found) (sym (cuts .many)))
+    tests = records-pass p (held h ls x .registers) (held h ls x .memory) (good .sound) (cuts .formed) (sym (cuts .many))
 
     -- the oldest places go, and the others move down
     module _ (i : ℕ) where
@@ -194,7 +195,6 @@ module _ (p : Program) (h : ℕ) (short : h ≤ maxHistory) where
     pub forget-held : (k : ℕ) → k ≤ length ls
         → Forget.forget p k (held h ls x .registers) (held h ls x .memory)
         ≡ record { answer = Forgotten (held h (take (length ls - k) ls) x .registers); memory = held h (take (length ls - k) ls) x .memory }
-    unfolding Forget.forget
     forget-held k few =
         let i : ℕ = length ls - k in
         let r : Registers = held h ls x .registers in
@@ -202,14 +202,12 @@ module _ (p : Program) (h : ℕ) (short : h ≤ maxHistory) where
         let free : Forget.freed k r m ≡ length (placesOf (drop i ls)) = cuts .taken i in
         let used : length (placesOf ls) - length (placesOf (drop i ls)) ≡ length (placesOf (take i ls)) = omega (arith, both i) in
         let kept : i ≡ length (take i ls) = sym (length-take-le i ls (omega arith)) in
-        rw (tests, le-leb k (length ls) few)
-        (ap (λ (n : ℕ). Forget.forgotten n k r m) free
+        forget-done p k r m tests few ∙ ap (λ (n : ℕ). Forget.forgotten n k r m) free
         ∙ (λ j. record {
           answer = Forgotten (registersHolding h (used j) (kept j) r);
           memory = record { cells = x .cells; history = moved-held i j; output = x .output };
-        }))
+        })
 
     pub forget-many : (k : ℕ) → leb k (length ls) ≡ false
         → Forget.forget p k (held h ls x .registers) (held h ls x .memory) ≡ notForgotten (held h ls x .memory) TooManySteps
-    unfolding Forget.forget
-    forget-many k many = rw (tests, many) refl
+    forget-many k many = forget-too-many p k (held h ls x .registers) (held h ls x .memory) tests (leb-false k (length ls) many)

@@ -38,5 +38,8 @@ pub mod Delivered
 -- Request k: a session that is carried to another machine.
 pub mod Carried
 pub mod GoesOn
+-- Request l: the newest kept step that wrote a cell.
+pub mod WrittenCells
+pub mod Wrote
 -- All of them, and those of other crates, each below its sentence.
 mod Theorems

@@ -109,3 +109,7 @@ use Rattle.promises.proofs.Carried.{carried-over}
 -- "only with the same one does the saved session go on": step by step as the first does, until one of them has no room in its history
 use Rattle.promises.proofs.GoesOn.{goes-on, whole-output, session-goes-on}
 use Rattle.rules.specs.Carryings.{all-carried}
+-- ---- Request l: "Under demand 3's premise the named step did write that cell and no later kept one did."
+
+use Rattle.promises.proofs.Wrote.{explained}
+use Rattle.rules.specs.Questions.{all-answered}

@@ -9,3 +9,4 @@ pub mod Refusals
 pub mod Addresses
 pub mod Dwells
 pub mod Delivered
+pub mod Wrote

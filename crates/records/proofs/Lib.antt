@@ -1,2 +1,3 @@
 pub mod Formed
 pub mod Walks
+pub mod Judgements

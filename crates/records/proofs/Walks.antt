@@ -1,4 +1,4 @@
--- The walk down over the records in use: what its loop carries, one record more and none left; and what a caller is told. Assumes nothing.
+-- The walk down over the records in use: what its loop carries, one record more and none left; and what it tells. Assumes nothing.
 use Prim.Native.Nat.{ℕ, suc, _+_, _-_, _≤_, _<_, min}
 use mathlib.Core.Path.{_≡_, refl, sym, ap, _∙_, subst}
 use mathlib.Core.Bool.{Bool, true, false, cond}
@@ -10,10 +10,10 @@ use borrow.Author.Tests.{leb-true, leb-false}
 use Rattle.rules.specs.Places.{stepCount}
 use Rattle.rules.specs.Records.{HistoryRecord, recordAt, cutDown, formedRecord, formedRecords, placesTaken}
 use Rattle.rules.proofs.Tests.{by-test}
-use Rattle.rules.proofs.Records.{cells-within, taken-from, taken-fewer}
+use Rattle.rules.proofs.Records.{cells-within}
 use Rattle.rules.proofs.Forgetting.{Walked, walked-none, walked-one, walked-bad, walked-all, walked-freed}
 use Rattle.records.specs.Walks.{found, broken, walkDown}
-use Rattle.records.specs.declared.Walk.{Walk}
+use Rattle.records.specs.declared.walk.Walk.{Walk}
 
 module _ (n count stay used : ℕ) (history : List ℕ) where
   -- so many records are passed and so many places left; and so many places are below the newest `stay`, or below all that are passed where these are fewer
@@ -101,7 +101,7 @@ module _ (n count stay used : ℕ) (history : List ℕ) where
           let same : min passed stay ≡ stay = omega (arith, leb-false passed stay many) in
           ap (λ (k : ℕ). drop k ws) same)
 
--- ---- what a caller is told
+-- ---- what is told by it
 
 module _ (n count stay used : ℕ) (history : List ℕ) (w : Walk) (e : w ≡ walkDown n count stay used history) where
   pub told-formed : w .formed ≡ formedRecords n count (cutDown 0 used history)
@@ -122,8 +122,3 @@ module _ (n count stay used : ℕ) (history : List ℕ) (w : Walk) (e : w ≡ wa
 
     pub told-below : w .below ≡ placesTaken (drop stay (cutDown 0 used history))
     told-below = ap (λ (a : Walk). a .below) told
-
-    pub told-within : w .below ≤ used
-    told-within =
-        let taken : 0 + placesTaken (cutDown 0 used history) ≡ used = taken-from n count 0 used history (omega arith) formed in
-        omega (arith, told-below, taken, taken-fewer stay (cutDown 0 used history))

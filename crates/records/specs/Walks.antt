@@ -4,7 +4,7 @@ use mathlib.Core.Bool.{true, false, cond}
 use mathlib.Core.List.{List}
 use lib.ListN.{length, drop}
 use Rattle.rules.specs.Records.{HistoryRecord, cutDown, formedRecords, placesTaken}
-use Rattle.records.specs.declared.Walk.{Walk}
+use Rattle.records.specs.declared.walk.Walk.{Walk}
 
 -- of well-formed records how many they are, and how many places those take that lie below the newest `stay`
 abbrev pub found : (stay : ℕ) → List HistoryRecord → Walk

@@ -1,67 +1,14 @@
-// Whether the records of a history are well formed: one of them, and all that are in use, walked down from the last place used.
+// The records of a history: whether one of them is well formed, and what a forget and a why ask first of all that are in use.
+use rules::Registers;
+
+mod parts;
+mod walk;
+
 ghost use mathlib.Core.Path.{_≡_};
-ghost use Rattle.rules.specs.Records.{recordAt, formedCell, formedCells, formedStep, formedRecord};
-ghost use Rattle.records.specs.Walks.{walkDown};
-
-// Whether a cell place is well formed, of N cells in a program of `count` instructions, with an address of at least `low`.
-fn is_formed_cell(place: u64, low: usize, n: usize, count: usize) -> bool
-    ensures { λ a. ⌜ a ≡ formedCell n count low place ⌝ }
-{
-    let address = places::cell_address(place);
-    if places::mark_of(place) != places::CELL_MARK {
-        return false;
-    }
-    if places::cell_zeros(place) != 0 {
-        return false;
-    }
-    if address < low {
-        return false;
-    }
-    if n <= address {
-        return false;
-    }
-    state::is_sound_cell(count, places::cell_tag(place), places::cell_bits(place))
-}
-
-// Whether the cell places are well formed, and their addresses rise strictly.
-fn are_formed_cells(cells: &[u64], n: usize, count: usize) -> bool
-    ensures { λ a. ⌜ a ≡ formedCells n count 0 (now (cells .entry)) ⌝ }
-{
-    let mut low = 0;
-    let mut i = 0;
-    while i < cells.len() {
-        let place = cells[i];
-        let ok = is_formed_cell(place, low, n, count);
-        if !ok {
-            return false;
-        }
-        low = places::cell_address(place) + 1;
-        i += 1;
-    }
-    true
-}
-
-// Whether a step place is well formed, with so many places `below` it.
-fn is_formed_step(place: u64, n: usize, count: usize, below: usize) -> bool
-    ensures { λ a. ⌜ a ≡ formedStep n count below place ⌝ }
-{
-    if places::mark_of(place) != places::STEP_MARK {
-        return false;
-    }
-    if places::step_zeros(place) != 0 {
-        return false;
-    }
-    if count <= places::step_pc(place) {
-        return false;
-    }
-    if n <= places::step_sp(place) {
-        return false;
-    }
-    if n <= places::step_fbr(place) {
-        return false;
-    }
-    places::step_count(place) <= below
-}
+ghost use Rattle.rules.specs.Table.{program};
+ghost use Rattle.rules.specs.State.{memory};
+ghost use Rattle.rules.specs.Records.{recordAt, formedRecord};
+ghost use Rattle.records.specs.Judgements.{judgement};
 
 // Whether the record whose step place is place `last` of the history is well formed: it is not where there is no such place.
 pub fn is_formed_record(history: &[u64], last: usize, n: usize, count: usize) -> bool
@@ -71,48 +18,53 @@ pub fn is_formed_record(history: &[u64], last: usize, n: usize, count: usize) ->
         return false;
     }
     let place = history[last];
-    let formed = is_formed_step(place, n, count, last);
+    let formed = parts::is_formed_step(place, n, count, last);
     if !formed {
         return false;
     }
     let from = last - places::step_count(place);
-    are_formed_cells(&history[from..last], n, count)
+    parts::are_formed_cells(&history[from..last], n, count)
 }
 
-// What a walk over the records in use finds: whether each is well formed, how many there are, and how many places those take that lie below the newest of them.
-// Both numbers are 0 where a record is not well formed.
-pub struct Walk {
-    pub formed: bool,
-    pub records: usize,
+// What a forget and a why are told first: whether the state is sound, each record in use is well formed and the kept number is that of the records; and how
+// many places lie below the newest `stay` of them, 0 where it is not so.
+pub struct Judgement {
+    pub sound: bool,
     pub below: usize,
 }
 
-// Walks down over the records in use, from the last place used to the first, and tells how many places lie below the newest `stay` records.
-pub fn walk_down(history: &[u64], used: usize, n: usize, count: usize, stay: usize) -> Walk
-    ensures { λ a. ⌜ a ≡ walkDown n count stay used (now (history .entry)) ⌝ }
+// It is not so.
+const FAILED: Judgement = Judgement {
+    sound: false,
+    below: 0,
+};
+
+// Judges a state and its records, as a forget and a why ask first: where they do not pass, both answer 10.
+pub fn judge(
+    table: &[u64],
+    length: usize,
+    r: Registers,
+    bits: &[u32],
+    tags: &[u8],
+    history: &[u64],
+    output: &[u8],
+    stay: usize,
+) -> Judgement
+    ensures { λ a. ⌜ a ≡ judgement (program (now (table .entry)) length) stay r (memory (now (bits .entry)) (now (tags .entry)) (now (history .entry)) (now (output .entry))) ⌝ }
 {
-    let mut left = used;
-    let mut passed = 0;
-    let mut below = used;
-    while 0 < left {
-        let last = left - 1;
-        let formed = is_formed_record(history, last, n, count);
-        if !formed {
-            return Walk {
-                formed: false,
-                records: 0,
-                below: 0,
-            };
-        }
-        left = last - places::step_count(history[last]);
-        passed += 1;
-        if passed <= stay {
-            below = left;
-        }
+    let sound = state::is_sound(table, length, r, bits, tags, history, output);
+    if !sound {
+        return FAILED;
     }
-    Walk {
-        formed: true,
-        records: passed,
-        below,
+    let walk = walk::walk_down(history, r.used, r.n, length, stay);
+    if !walk.formed {
+        return FAILED;
+    }
+    if r.kept != walk.records {
+        return FAILED;
+    }
+    Judgement {
+        sound: true,
+        below: walk.below,
     }
 }

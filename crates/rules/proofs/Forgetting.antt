@@ -7,38 +7,34 @@ use native.Mathlib.Nat.{zero-add, add-zero}
 use native.Mathlib.Omega.{arith}
 use lib.ListN.{length, getD, take, drop, set, replicate, length-set, length-replicate, length-drop}
 use lib.Seq.{drop-drop, getD-drop, take-suc, take-suc-set, drop-set-lt}
-use borrow.Author.Tests.{eq-eqb, le-leb, lt-leb}
+use borrow.Author.Tests.{le-leb, lt-leb}
 use Rattle.rules.specs.Lists.{every, part, splice}
 use Rattle.rules.specs.Places.{stepCount}
 use Rattle.rules.specs.Table.{Program}
-use Rattle.rules.specs.State.{Memory, sound}
-use Rattle.rules.specs.Records.{HistoryRecord, recordAt, cutDown, recordsInUse, formedRecord, formedRecords, placesTaken}
-use Rattle.rules.specs.Forget.{recordTests, freed, movedDown, forgotten, notForgotten, forget}
+use Rattle.rules.specs.State.{Memory}
+use Rattle.rules.specs.Records.{HistoryRecord, recordAt, cutDown, recordsInUse, formedRecord, formedRecords, recordTests, placesTaken}
+use Rattle.rules.specs.Forget.{freed, movedDown, forgotten, notForgotten, forget}
 use Rattle.rules.specs.declared.Registers.{Registers}
 use Rattle.rules.specs.declared.ForgetRefusal.the-variants.{RecordsBroken, TooManySteps}
-use Rattle.rules.proofs.Tests.{every-false}
 use Rattle.rules.proofs.Records.{cells-within, cut-next, cut-none, taken-from}
 
 -- ---- the answers
 
 module _ (p : Program) (k : ℕ) (r : Registers) (m : Memory) where
-  -- "10 first": one test that fails is enough
-  pub forget-broken : (i : ℕ) → getD (recordTests p r m) i true ≡ false → forget p k r m ≡ notForgotten m RecordsBroken
+  -- "10 first"
+  pub forget-broken : every (recordTests p r m) ≡ false → forget p k r m ≡ notForgotten m RecordsBroken
   unfolding forget
-  forget-broken i h = rw (every-false (recordTests p r m) i h) refl
+  forget-broken fails = rw fails refl
 
-  module _ (s : sound p r m ≡ true) (f : formedRecords (r .n) (p .count) (recordsInUse r m) ≡ true) (n : r .kept ≡ length (recordsInUse r m)) where
-    tests : every (recordTests p r m) ≡ true
-    tests = simp (s, f, eq-eqb (r .kept) (length (recordsInUse r m)) n)
-
+  module _ (passes : every (recordTests p r m) ≡ true) where
     -- "then 14"
     pub forget-too-many : r .kept < k → forget p k r m ≡ notForgotten m TooManySteps
     unfolding forget
-    forget-too-many h = rw (tests, lt-leb k (r .kept) h) refl
+    forget-too-many h = rw (passes, lt-leb k (r .kept) h) refl
 
     pub forget-done : k ≤ r .kept → forget p k r m ≡ forgotten (freed k r m) k r m
     unfolding forget
-    forget-done h = rw (tests, le-leb k (r .kept) h) refl
+    forget-done h = rw (passes, le-leb k (r .kept) h) refl
 
 -- ---- the walk down: u places are left below the records passed so far
 

@@ -1,14 +1,14 @@
 -- Document 02, letter i: "Add a call that forgets the k oldest kept steps, moves the rest down, and zeroes the room gained, which later steps use." Assumes
 -- nothing.
 use Prim.Native.Nat.{ℕ, _-_}
-use mathlib.Core.Bool.{Bool, cond}
-use mathlib.Core.List.{List, [], _∷_, _++_}
-use lib.ListN.{length, drop, replicate}
-use lib.Dec.{leb, eqb}
+use mathlib.Core.Bool.{cond}
+use mathlib.Core.List.{List, _++_}
+use lib.ListN.{drop, replicate}
+use lib.Dec.{leb}
 use Rattle.rules.specs.Lists.{every, part}
 use Rattle.rules.specs.Table.{Program}
-use Rattle.rules.specs.State.{Memory, registersHolding, sound}
-use Rattle.rules.specs.Records.{recordsInUse, formedRecords, placesTaken}
+use Rattle.rules.specs.State.{Memory, registersHolding}
+use Rattle.rules.specs.Records.{recordsInUse, recordTests, placesTaken}
 use Rattle.rules.specs.declared.Registers.{Registers}
 use Rattle.rules.specs.declared.ForgetRefusal.{ForgetRefusal}
 use Rattle.rules.specs.declared.ForgetRefusal.the-variants.{RecordsBroken, TooManySteps}
@@ -19,14 +19,6 @@ use Rattle.rules.specs.declared.Forgot.the-variants.{Forgotten, NotForgo
 pub record Forgets : Type 0 where
   pub answer : Forgot
   pub memory : Memory
-
--- not "10 first, also when any used record is ill-formed or the kept number differs from the records in use"
-abbrev pub recordTests : Program → Registers → Memory → List Bool
-recordTests p r m =
-    sound p r m
-    ∷ formedRecords (r .n) (p .count) (recordsInUse r m)
-    ∷ eqb (r .kept) (length (recordsInUse r m))
-    ∷ []
 
 -- how many places "the k oldest kept steps" take: their records come last, behind those that stay
 abbrev pub freed : ℕ → Registers → Memory → ℕ

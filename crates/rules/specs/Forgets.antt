@@ -77,10 +77,10 @@ lastPa = 0x000C000000040000
 -- ---- from a reset, with 16 cells, that many history places and two bytes of output
 
 -- a run with a limit, a forget of k, a run with another limit, and so many step-backs
-abbrev ranBefore : (h : ℕ) → String → (limit : ℕ) → Seen
+abbrev pub ranBefore : (h : ℕ) → String → (limit : ℕ) → Seen
 ranBefore h source limit = seenRun (ranWith (programOf source) 16 h 2 limit)
 
-abbrev thenForgets : Program → ℕ → Seen → Seen
+abbrev pub thenForgets : Program → ℕ → Seen → Seen
 thenForgets p k s = seenForget (s .registers) (forget p k (s .registers) (s .memory))
 
 abbrev thenRuns : Program → ℕ → Seen → Seen

@@ -1,14 +1,15 @@
 -- Document 01, "History places", and document 02, letter i: the used history places cut into records, the newest first, and which records are well formed. One
--- record is one kept step. A step-back takes the first of them back, a forget gives up the last; where all are well formed they are as many as the step places that
--- request g counts (proofs/Records.antt). Assumes nothing.
+-- record is one kept step. A step-back takes the first of them back, a forget gives up the last, a why looks for the first that wrote a cell; where all are well
+-- formed they are as many as the step places that request g counts (proofs/Records.antt). Assumes nothing.
 use Prim.Native.Nat.{ℕ, zero, suc, _+_, _-_}
 use mathlib.Core.Bool.{Bool, true, _&&_}
 use mathlib.Core.List.{List, [], _∷_, _++_}
-use lib.ListN.{getD}
+use lib.ListN.{length, getD}
 use lib.Dec.{leb, ltb, eqb}
 use Rattle.rules.specs.Lists.{every, part}
 use Rattle.rules.specs.Places.{mark, cellAddress, cellTag, cellBits, cellZeros, stepPc, stepSp, stepFbr, stepCount, stepZeros}
-use Rattle.rules.specs.State.{Memory, soundCell}
+use Rattle.rules.specs.Table.{Program}
+use Rattle.rules.specs.State.{Memory, soundCell, sound}
 use Rattle.rules.specs.declared.Registers.{Registers}
 
 -- "A step adds its cell places by rising address, then its step place."
@@ -77,6 +78,14 @@ formedRecord n count w = formedStep n count (w .below) (w .place) && formedCells
 abbrev pub formedRecords : (n count : ℕ) → List HistoryRecord → Bool
 formedRecords n count [] = true
 formedRecords n count (w ∷ ws) = formedRecord n count w && formedRecords n count ws
+
+-- not "10 first, also when any used record is ill-formed or the kept number differs from the records in use" (02 i); "10 as in i)" (02 l)
+abbrev pub recordTests : Program → Registers → Memory → List Bool
+recordTests p r m =
+    sound p r m
+    ∷ formedRecords (r .n) (p .count) (recordsInUse r m)
+    ∷ eqb (r .kept) (length (recordsInUse r m))
+    ∷ []
 
 -- ---- the places that records take
 

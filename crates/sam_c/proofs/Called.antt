@@ -10,12 +10,11 @@ use Rattle.rules.specs.Step.{Stepped}
 use Rattle.rules.specs.Run.{Ran}
 use Rattle.rules.specs.Forget.{Forgets}
 use Rattle.rules.specs.SavedState.{Saving, Loading}
-use Rattle.rules.specs.Numbers.{numberOfReset, numberOfStep, registersAfter, numberOfEnding, numberOfDwell, tenthsOfDwell, numberOfForgot, registersForgot, numberOfChecked, placeOfChecked, numberOfSaved, lengthOfSaved, numberOfLoad}
+use Rattle.rules.specs.Numbers.{numberOfReset, numberOfStep, registersAfter, numberOfEnding, numberOfForgot, registersForgot, numberOfChecked, placeOfChecked, numberOfSaved, lengthOfSaved, numberOfLoad}
 use Rattle.rules.specs.declared.Registers.{Registers}
 use Rattle.rules.specs.declared.Reset.{Reset}
 use Rattle.rules.specs.declared.Step.{Step}
 use Rattle.rules.specs.declared.Run.{Run}
-use Rattle.rules.specs.declared.Dwell.{Dwell}
 use Rattle.rules.specs.declared.Forgot.{Forgot}
 use Rattle.rules.specs.declared.Checked.{Checked}
 use Rattle.rules.specs.declared.Saved.{Saved}
@@ -23,7 +22,7 @@ use Rattle.rules.specs.declared.Load.{Load}
 use Rattle.state.specs.Outcomes.{started, stepped}
 use Rattle.forget.specs.Outcomes.{forgot}
 use Rattle.saved.specs.Outcomes.{saving, loading}
-use Rattle.sam_c.specs.Calls.{Filled, Moved, filled, moved, ofLength, notItsLength, untold, registerCount, listOf, registersOf, resetMoved, stepMoved, forgetMoved, loadMoved, saveFilled, Walked, walked, runWalked, Answered, answered, dwellAnswered, depthsAnswered}
+use Rattle.sam_c.specs.Calls.{Filled, Moved, filled, moved, ofLength, notItsLength, untold, registerCount, listOf, registersOf, resetMoved, stepMoved, forgetMoved, loadMoved, saveFilled, Walked, walked, runWalked, Answered, answered, depthsAnswered}
 use Rattle.sam_c.proofs.Lent.{of-length, of-another}
 
 -- a call that fills an output, whose answer is a′ and which leaves out′
@@ -82,17 +81,17 @@ module _ (t : List ℕ) (ht : length t ≡ 1) (l : List ℕ) (h : length l ≡ r
       ∙ sym (of-length registerCount l _ _ h)
       ∙ sym (of-length 1 t _ _ ht)
 
--- a reading f of a machine, which answers d
-module _ (t : List ℕ) (ht : length t ≡ 1) (l : List ℕ) (h : length l ≡ registerCount) (other instead : Answered) where
-  pub dwell-called : (f : Registers → Dwell) {k : ℕ} {r : Registers} {d : Dwell} {tenths : ℕ} {told : List ℕ} → r ≡ registersOf l → d ≡ f r
-      → told ≡ tenths ∷ [] → tenths ≡ tenthsOfDwell d → k ≡ numberOfDwell d
-      → answered k told ≡ ofLength 1 t (ofLength registerCount l (dwellAnswered (f (registersOf l))) other) instead
-  dwell-called f er ed et es ek =
-      (λ i. answered (ek i) ((et ∙ ap (λ (x : ℕ). x ∷ []) es) i))
-      ∙ ap dwellAnswered ed
-      ∙ ap (λ (q : Registers). dwellAnswered (f q)) er
+-- a reading f of a machine, a dwell or a why, which answers a
+module _ {A : Type 0} (number : A → ℕ) (tells : A → List ℕ) (n : ℕ) (t : List ℕ) (ht : length t ≡ n) (l : List ℕ) (h : length l ≡ registerCount)
+    (other instead : Answered) where
+  pub read-called : (f : Registers → A) {k : ℕ} {r : Registers} {a : A} {told : List ℕ} → r ≡ registersOf l → a ≡ f r → told ≡ tells a → k ≡ number a
+      → answered k told
+      ≡ ofLength n t (ofLength registerCount l (answered (number (f (registersOf l))) (tells (f (registersOf l)))) other) instead
+  read-called f er ea et ek =
+      (λ i. answered (ek i) (et i))
+      ∙ ap (λ (a : A). answered (number a) (tells a)) (ea ∙ ap f er)
       ∙ sym (of-length registerCount l _ _ h)
-      ∙ sym (of-length 1 t _ _ ht)
+      ∙ sym (of-length n t _ _ ht)
 
 -- a save f, which answers a and leaves that image
 module _ (t : List ℕ) (ht : length t ≡ 1) (l : List ℕ) (h : length l ≡ registerCount) (other instead : Filled) where

@@ -48,3 +48,6 @@ set-one a l h = ap (λ (t : List ℕ). set t 0 a) (sym (spelled-all 1 0 l (sym h
 
 pub set-four : (a b c d : ℕ) (l : List ℕ) → length l ≡ 4 → set (set (set (set l 0 a) 1 b) 2 c) 3 d ≡ a ∷ b ∷ c ∷ d ∷ []
 set-four a b c d l h = ap (λ (t : List ℕ). set (set (set (set t 0 a) 1 b) 2 c) 3 d) (sym (spelled-all 4 0 l (sym h)))
+
+pub set-six : (a b c d e f : ℕ) (l : List ℕ) → length l ≡ 6 → set (set (set (set (set (set l 0 a) 1 b) 2 c) 3 d) 4 e) 5 f ≡ a ∷ b ∷ c ∷ d ∷ e ∷ f ∷ []
+set-six a b c d e f l h = ap (λ (t : List ℕ). set (set (set (set (set (set t 0 a) 1 b) 2 c) 3 d) 4 e) 5 f) (sym (spelled-all 6 0 l (sym h)))

@@ -19,13 +19,16 @@ use Rattle.rules.specs.Back.{back}
 use Rattle.rules.specs.Run.{Ran, run}
 use Rattle.rules.specs.Forget.{Forgets, forget}
 use Rattle.rules.specs.Dwell.{dwell}
+use Rattle.rules.specs.Why.{why}
 use Rattle.rules.specs.DepthList.{check}
 use Rattle.rules.specs.SavedState.{Saving, save, entry, Loading, load}
-use Rattle.rules.specs.Numbers.{machineNumber, textNumber, numberOfAssembled, lengthOfAssembled, positionOfAssembled, numberOfListed, lengthOfListed, numberOfPacked, lengthOfPacked, numberOfReset, numberOfStep, registersAfter, numberOfEnding, numberOfDwell, tenthsOfDwell, numberOfForgot, registersForgot, numberOfChecked, placeOfChecked, numberOfSaved, lengthOfSaved, loadNumber, numberOfLoad}
+use Rattle.rules.specs.Numbers.{machineNumber, textNumber, numberOfAssembled, lengthOfAssembled, positionOfAssembled, numberOfListed, lengthOfListed, numberOfPacked, lengthOfPacked, numberOfReset, numberOfStep, registersAfter, numberOfEnding, numberOfDwell, tenthsOfDwell, numberOfForgot, registersForgot, numberOfChecked, placeOfChecked, numberOfSaved, lengthOfSaved, loadNumber, numberOfLoad, numberOfWhy, foundOfWhy, noStep, stepOfWhy}
 use Rattle.rules.specs.declared.Position.{Position}
 use Rattle.rules.specs.declared.Registers.{Registers}
 use Rattle.rules.specs.declared.Dwell.{Dwell}
 use Rattle.rules.specs.declared.Checked.{Checked}
+use Rattle.rules.specs.declared.NamedStep.{NamedStep}
+use Rattle.rules.specs.declared.Why.{Why}
 use Rattle.rules.specs.declared.MachineRefusal.the-variants.{Broken, OutsideSizes}
 use Rattle.rules.specs.declared.TextRefusal.the-variants.{WrongLength}
 use Rattle.rules.specs.declared.Resumed.{Resumed}
@@ -203,13 +206,29 @@ loadCall image p registers m =
 -- ---- the calls that only read a machine
 
 -- "each returns 0 tenths" (02 f), registers of another length too
-abbrev pub dwellAnswered : Dwell → Answered
-dwellAnswered d = answered (numberOfDwell d) (tenthsOfDwell d ∷ [])
+abbrev pub tenthsTold : Dwell → List ℕ
+tenthsTold d = tenthsOfDwell d ∷ []
 
 abbrev pub dwellCall : Program → List ℕ → Memory → List ℕ → Answered
 dwellCall p registers m told =
+    let d = dwell p (registersOf registers) m in
     ofLength 1 told
-    (ofLength registerCount registers (dwellAnswered (dwell p (registersOf registers) m)) (answered broken (0 ∷ [])))
+    (ofLength registerCount registers (answered (numberOfDwell d) (tenthsTold d)) (answered broken (0 ∷ [])))
+    (answered notItsLength told)
+
+-- 1 where a step is named, else 0; and "how many steps back (newest 1), its PC, the instruction, and what the cell held before with its tag" (02 l)
+abbrev pub named : ℕ → NamedStep → List ℕ
+named found s = found ∷ s .back ∷ s .pc ∷ s .instruction ∷ s .before .tag ∷ s .before .bits ∷ []
+
+abbrev pub whyTold : Why → List ℕ
+whyTold w = named (foundOfWhy w) (stepOfWhy w)
+
+-- "a refusal tells zeros" (02 l), registers of another length too
+abbrev pub whyCall : Program → (cell : ℕ) → List ℕ → Memory → List ℕ → Answered
+whyCall p cell registers m told =
+    let w = why p cell (registersOf registers) m in
+    ofLength 6 told
+    (ofLength registerCount registers (answered (numberOfWhy w) (whyTold w)) (answered broken (named 0 noStep)))
     (answered notItsLength told)
 
 -- the save fills an output besides: with registers of another length it tells 0, as every refused writer does

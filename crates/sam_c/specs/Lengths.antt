@@ -8,12 +8,13 @@ use lib.ListN.{replicate}
 use lib.Dec.{eqb}
 use Rattle.rules.specs.Lists.{text, every, same}
 use Rattle.rules.specs.SavedState as SavedState
+use Rattle.rules.specs.Why as Why
 use Rattle.rules.specs.Sizes.{maxProgram, maxHistory, maxOutput, maxLimit, listingSize, imageSize, stateSize}
 use Rattle.rules.specs.Table.{Program, program}
 use Rattle.rules.specs.State.{Memory, memory}
 use Rattle.rules.specs.Examples.{programOf, holds}
 use Rattle.rules.specs.DepthList.{check}
-use Rattle.sam_c.specs.Calls.{Filled, Moved, ofLength, notRegistersSaved, assembleCall, listCall, packCall, unpackCall, resetCall, forgetCall, runCall, depthsCall, loadCall, saveCall}
+use Rattle.sam_c.specs.Calls.{Filled, Moved, ofLength, notRegistersSaved, assembleCall, listCall, packCall, unpackCall, resetCall, forgetCall, runCall, depthsCall, loadCall, saveCall, whyCall}
 
 -- what stood in every lent place before
 abbrev old : ℕ → List ℕ
@@ -54,6 +55,12 @@ runs number limit registers told after =
     let m = memory (old 2) (old 2) (old 3) (old 2) in
     let w = runCall (programOf "STOP") limit (old registers) m told in
     stays (w .moved) number (old registers) m && same (w .told) after
+
+-- a why of that cell with so many registers and so many values to tell, which are told as these
+abbrev asks : (number cell registers : ℕ) (told after : List ℕ) → Bool
+asks number cell registers told after =
+    let a = whyCall (programOf "STOP") cell (old registers) (memory (old 2) (old 2) (old 3) (old 2)) told in
+    eqb (a .number) number && same (a .told) after
 
 -- a save of a machine with so many registers into an image of so many bytes
 abbrev saves : (number registers image : ℕ) → (told after left : List ℕ) → Bool
@@ -107,6 +114,12 @@ lengths =
     ∷ judges 10 (program [] 1) 0 [] (old 1) (zeros 1)
     ∷ judges 11 (programOf "STOP") 0 [] (old 1) (zeros 1)
     ∷ judges 64 (programOf "STOP") 1 [] (old 1) (zeros 1)
+    -- "10 as in i), then 6 ..; a refusal tells zeros" (02 l): a told of another length comes before both, and registers of another length before 6
+    ∷ asks 31 0 9 (old 5) (old 5)
+    ∷ asks 31 18446744073709551615 8 (old 7) (old 7)
+    ∷ asks 10 0 9 (old 6) (zeros 6)
+    ∷ asks 10 0 8 (old 6) (zeros 6)
+    ∷ asks 10 18446744073709551615 10 (old 6) (zeros 6)
     -- "Refusals for save: 31, then 10." (02 k): a told of another length before both, and registers of another length in 10's place; "Refused writers .. zero one
     -- of right length, .. and tell length 0"
     ∷ saves 31 8 stateSize (old 2) (old 2) (zeros stateSize)
@@ -125,5 +138,5 @@ lengths =
     ∷ []
 
 pub all-lengths : every lengths ≡ true
-unfolding lengths ofLength notRegistersSaved holds check SavedState.save SavedState.stateBits SavedState.registersIn SavedState.columnIn SavedState.bytesIn SavedState.entry SavedState.load
+unfolding lengths ofLength notRegistersSaved holds check Why.why SavedState.save SavedState.stateBits SavedState.registersIn SavedState.columnIn SavedState.bytesIn SavedState.entry SavedState.load
 all-lengths = refl

@@ -1,12 +1,15 @@
 -- `sam_dwell` meets its contract: what the dwell reader answers, and the tenths told. Assumes nothing.
+use Prim.Native.Nat.{ℕ}
 use mathlib.Core.Path.{sym, ap, _∙_}
+use mathlib.Core.List.{[], _∷_}
 use Rattle.rules.specs.Table.{program}
 use Rattle.rules.specs.State.{memory}
 use Rattle.rules.specs.Dwell.{dwell}
+use Rattle.rules.specs.Numbers.{numberOfDwell}
 use Rattle.rules.specs.declared.Registers.{Registers}
-use Rattle.sam_c.specs.Calls.{answered, broken, registerCount}
+use Rattle.sam_c.specs.Calls.{answered, broken, registerCount, tenthsTold}
 use Rattle.sam_c.proofs.Lent.{of-length, of-another}
-use Rattle.sam_c.proofs.Called.{dwell-called}
+use Rattle.sam_c.proofs.Called.{read-called}
 use borrow.Author.Needs.{needs}
 use Rattle.sam_c.proofs.read_dwell.sam_dwell.Statement.{statement}
 use Rattle.sam_c.proofs.read_dwell.sam_dwell.Tie as tie
@@ -61,12 +64,11 @@ returns-3 c =
     let at-if1 = at-if2 .before in
     let start = at-if1 .before .before .before .before .before .before .before .before in
     let a = start .args in
-    dwell-called (a .told .now) (at-if1 .if1 .left) (a .registers .now) (at-if2 .if2 .left) _ _
+    read-called numberOfDwell tenthsTold 1 (a .told .now) (at-if1 .if1 .left) (a .registers .now) (at-if2 .if2 .left) _ _
     (λ (r : Registers). dwell (program (a .table .now) (a .length)) r (memory (a .bits .now) (a .tags .now) (a .history .now) (a .output .now)))
     (at-read .read .ensures)
     (at-dwell .dwell .ensures)
-    (at-tell2 .tell2 .ensures)
-    (at-dwell-tenths .dwell-tenths .ensures)
+    (at-tell2 .tell2 .ensures ∙ ap (λ (tenths : ℕ). tenths ∷ []) (at-dwell-tenths .dwell-tenths .ensures))
     (c .dwell-number .ensures)
 
 pub sam-dwell-spec : {M : Type 1} → statement M

@@ -1,4 +1,4 @@
--- `records::is_formed_step` meets its contract: each early return is one test that fails. Assumes nothing.
+-- `records::parts::is_formed_step` meets its contract: each early return is one test that fails. Assumes nothing.
 use Prim.Native.Nat.{ℕ}
 use mathlib.Core.Path.{sym, ap, _∙_}
 use mathlib.Core.Bool.{and-true}
@@ -7,8 +7,8 @@ use borrow.Author.Tests.{lt-ltb, le-ltb, eq-eqb, ne-eqb}
 use lib.Dec.{eqb, leb, ltb}
 use Rattle.rules.specs.Records.{stepTests}
 use Rattle.rules.proofs.Tests.{every-false, and-then}
-use Rattle.records.proofs.is_formed_step.Statement.{statement}
-use Rattle.records.proofs.is_formed_step.Tie as tie
+use Rattle.records.proofs.parts.is_formed_step.Statement.{statement}
+use Rattle.records.proofs.parts.is_formed_step.Tie as tie
 
 mark-of-requires : tie.Need-mark-of-requires
 mark-of-requires c κs = search needs

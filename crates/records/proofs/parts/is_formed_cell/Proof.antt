@@ -1,4 +1,4 @@
--- `records::is_formed_cell` meets its contract: each early return is one test that fails. Assumes nothing.
+-- `records::parts::is_formed_cell` meets its contract: each early return is one test that fails. Assumes nothing.
 use Prim.Native.Nat.{ℕ}
 use mathlib.Core.Path.{sym, ap, ap₂, _∙_}
 use mathlib.Core.Bool.{and-true}
@@ -8,8 +8,8 @@ use lib.Dec.{eqb, leb, ltb}
 use Rattle.rules.specs.State.{soundCell}
 use Rattle.rules.specs.Records.{cellTests}
 use Rattle.rules.proofs.Tests.{every-false, and-then}
-use Rattle.records.proofs.is_formed_cell.Statement.{statement}
-use Rattle.records.proofs.is_formed_cell.Tie as tie
+use Rattle.records.proofs.parts.is_formed_cell.Statement.{statement}
+use Rattle.records.proofs.parts.is_formed_cell.Tie as tie
 
 cell-address-requires : tie.Need-cell-address-requires
 cell-address-requires c κs = search needs

@@ -1,5 +1,5 @@
--- `records::are_formed_cells` meets its contract. The loop's invariant: all cell places are well formed exactly where those left are, from the address after the
--- last one on. Assumes nothing.
+-- `records::parts::are_formed_cells` meets its contract. The loop's invariant: all cell places are well formed exactly where those left are, from the
+-- address after the last one on. Assumes nothing.
 use Prim.Native.Nat.{ℕ, _+_, _-_, _≤_}
 use mathlib.Core.Path.{_≡_, sym, ap, _∙_}
 use mathlib.Core.Bool.{true, false}
@@ -10,8 +10,8 @@ use lib.ListN.{length, getD, drop}
 use Rattle.rules.specs.Records.{formedCells}
 use Rattle.rules.proofs.Places.{cellAddress-is}
 use Rattle.records.proofs.Formed.{formed-next, formed-done}
-use Rattle.records.proofs.are_formed_cells.Statement.{statement}
-use Rattle.records.proofs.are_formed_cells.Tie as tie
+use Rattle.records.proofs.parts.are_formed_cells.Statement.{statement}
+use Rattle.records.proofs.parts.are_formed_cells.Tie as tie
 
 abbrev Inv-loop : tie.InvT-loop
 Inv-loop cells n count low₀ i₀ low i = (i ≤ length cells) × (formedCells n count low (drop i cells) ≡ formedCells n count 0 cells)

@@ -1,4 +1,4 @@
--- `records::walk_down` meets its contract. The loop's invariant: so many records are passed, each well formed, and so many places are left. Assumes nothing.
+-- `records::walk::walk_down` meets its contract. The loop's invariant: so many records are passed, each well formed, and so many places left. Assumes nothing.
 use Prim.Native.Nat.{_-_, _≤_, _<_}
 use mathlib.Core.Path.{_≡_, sym, _∙_}
 use mathlib.Core.Bool.{true}
@@ -9,8 +9,8 @@ use lib.ListN.{length}
 use Rattle.rules.specs.Records.{recordAt, formedRecord}
 use Rattle.records.proofs.Formed.{record-inside}
 use Rattle.records.proofs.Walks.{Walking, walking-none, walk-broken, passes, walking-new, walking-old, walk-found}
-use Rattle.records.proofs.walk_down.Statement.{statement}
-use Rattle.records.proofs.walk_down.Tie as tie
+use Rattle.records.proofs.walk.walk_down.Statement.{statement}
+use Rattle.records.proofs.walk.walk_down.Tie as tie
 
 abbrev Inv-loop : tie.InvT-loop
 Inv-loop history used n count stay left₀ passed₀ below₀ left passed below = Walking n count stay used history left passed below
