@@ -13,6 +13,7 @@ from machines import copied
 from panel import is_before_writing, only_odd_cell, refusals_met, restored_by
 from sam.table import NAMES
 from sam.text import read_token, tokens
+from whys import how_written, where_asked, writers
 
 MARK = 0xA5  # the byte that lent memory holds before a call
 PLACES = 1024
@@ -20,6 +21,7 @@ TEXT_BYTES = 20480
 IMAGE_BYTES = 4866
 STATE_BYTES = 4638
 ASSEMBLE_TOLD = 4  # values that assemble tells: length, place, line, column
+WHY_TOLD = 6  # values that why tells: found, steps back, PC, the table's place, old tag, old bits
 # The calls that write an output: its length, and that of told.
 WRITERS = {
     "assemble": (PLACES, ASSEMBLE_TOLD),
@@ -30,7 +32,7 @@ WRITERS = {
     "plain_unpack": (PLACES, 1),
     "plain_pack": (IMAGE_BYTES, 1),
 }
-COUNTED_REFUSALS = (5, 6, 12)  # of which the instruction is counted
+COUNTED_REFUSALS = (5, 6, 12)  # of a step or a run, of which the instruction is counted
 
 
 def marked(count, width):
@@ -125,6 +127,12 @@ class Script:
         self.carried = Counter()  # (whether there are histories, who ended first, number) of each session carried on
         self.loaded_calls = Counter()  # (whether there is a history, word, number) of each call in a series from a load
         self.fresh_loads = Counter()  # (whether there is a history, any taken back, any forgotten) of each such series
+        self.whys = Counter()  # (what is tried, .., cell, number, *told) of each why
+        self.whys_after = Counter()  # (word of the call before, HALT, its number, number, *told) of each why of cell 0
+        self.named_steps = Counter()  # (name, which of the cells that it wrote, whether it held that) of each named
+        self.asked_cells = Counter()  # (HALT, where it lies, how many kept steps wrote it) of each why that is done
+        self.back_to_named = Counter()  # (steps back, whether the cell changed) of each named step that was taken back
+        self.why_tolds = Counter()  # (told's length, number and found of the why alone) of each why with another told
         self.wrong_tolds = Counter()  # (word, told's length, output's length, number of the input alone) of writers
         self.register_lengths = Counter()  # (line, number with nine, length, number) of each with another length
         self.resets = Counter()  # (length of the registers, cells, tags, history places, output, number) of each reset
@@ -271,12 +279,12 @@ class LentMachine:
 
     def answer(self, line, number, told):
         word = line.split(" ", 1)[0]
-        if number in COUNTED_REFUSALS:
+        if number in COUNTED_REFUSALS and word != "why":
             self.count_refusal(word, number)
         if self.registers_length == REGISTERS:
             self.count_written(word)
             self.count_kept(word, number)
-        if word not in ("dwell", "save"):
+        if word not in ("dwell", "save", "why"):
             self.last_word = word
         self.told = told
         written = [("bytes", output_word(self.image))] if word == "save" else []
@@ -344,10 +352,10 @@ class LentMachine:
             self.script.forgets[before.h > 0, before.kept, k, number] += 1
         return number
 
-    def telling_call(self, words, call, told_length):
-        """A call that tells one value, and writes no output: a told of another length is 31 before anything else, and
+    def telling_call(self, words, call, told_length, told_due=1):
+        """A call that tells something, and writes no output: a told of another length is 31 before anything else, and
         nothing changes."""
-        if told_length != 1:
+        if told_length != told_due:
             call = lambda state: [31, *marked(told_length, 8)]
         return self.machine_call(f"{words} {told_length}", call)
 
@@ -365,6 +373,23 @@ class LentMachine:
         cell = state.cell(0) if state.bits and state.tags else None
         self.script.dwells[registers.halt, registers.sp > 0, cell, number, tenths] += 1
         self.script.dwells_after[self.last_word, number] += 1
+
+    def why(self, cell, told_length=WHY_TOLD):
+        call = lambda state: sam.why(self.program, state, cell)
+        number = self.telling_call(f"why {cell}", call, told_length, WHY_TOLD)
+        if self.registers_length == REGISTERS:
+            self.count_why(cell, number, told_length)
+        return number
+
+    def count_why(self, cell, number, told_length):
+        script, state = self.script, self.state
+        if told_length != WHY_TOLD:
+            alone, is_found, *_ = sam.why(self.program, state, cell)
+            script.why_tolds[told_length, alone, is_found] += 1
+        elif number == 0:
+            wrote = writers(self.program, state, cell)
+            script.asked_cells[where_asked(state, cell, len(wrote))] += 1
+            script.named_steps.update(how_written(self.program, state, cell, newest) for newest in wrote[:1])
 
     def save(self, size=STATE_BYTES, told_length=1):
         """Into an image that is kept as it is left; nothing else changes."""

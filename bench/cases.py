@@ -9,7 +9,8 @@ import panel
 import sam
 import saves
 import teaching
-from calls import ASSEMBLE_TOLD, IMAGE_BYTES, PLACES, REGISTERS, STATE_BYTES, TEXT_BYTES, WRITERS, LentMachine
+import whys
+from calls import ASSEMBLE_TOLD, IMAGE_BYTES, PLACES, REGISTERS, STATE_BYTES, TEXT_BYTES, WHY_TOLD, WRITERS, LentMachine
 from dwells import ADDRESS_CELLS, CHARACTER_CELLS, FLOAT_CELLS, INTEGER_CELLS, KINDS_OF_CELLS, PLAIN_CELLS, any_cell
 from machines import copied, halted, single, stacked
 from programs import CONVERSIONS, FLOAT_EDGES, FTOI_EDGES, INTEGER_EDGES, ITOF_EDGES, SUMS, TWO_FLOATS, TWO_INTEGERS
@@ -32,7 +33,7 @@ OTHER_LENGTHS = [0, 1, REGISTERS - 2, REGISTERS - 1, REGISTERS + 1, 2 * REGISTER
 
 def other_tolds(told_due):
     """Lengths that a told may have in place of its own."""
-    return [length for length in range(ASSEMBLE_TOLD + 2) if length != told_due]
+    return [length for length in range(max(told_due, ASSEMBLE_TOLD) + 2) if length != told_due]
 
 
 def wrong_tolds(word):
@@ -379,6 +380,8 @@ def series_case(chooser, script):
     for _ in range(chooser.randrange(4, 30)):
         if chooser.randrange(6) == 0:
             lent.dwell()
+        if chooser.randrange(3) == 0:
+            lent.why(whys.any_asked(chooser, lent.state))
         called(script, lent, counts, *any_series_call(chooser, lent))
         check_series(lent.state, counts)
     lent.dwell()
@@ -532,7 +535,7 @@ END_LIMITS = [0, RUN_LIMIT, RUN_LIMIT + 1, DOUBLE_WORD - 1]  # the ends of a run
 
 
 def any_call(chooser, lent):
-    kind = chooser.randrange(8)
+    kind = chooser.randrange(9)
     if kind < 2:
         return lent.back()
     if kind < 4:
@@ -543,6 +546,8 @@ def any_call(chooser, lent):
         return lent.run(chooser.choice([1, 50, *END_LIMITS]), chooser.choice([1] * 8 + [0, 2]))
     if kind < 7:
         return lent.save(any_size(chooser, STATE_BYTES), chooser.choice([1] * 8 + [0, 2]))
+    if kind < 8:
+        return lent.why(whys.any_asked(chooser, lent.state), any_told(chooser, WHY_TOLD))
     return lent.forget(forgets.any_number(chooser, lent.state.registers.kept))
 
 
@@ -567,6 +572,7 @@ CALLS = {
     "run": lambda lent: lent.run(9),
     "plain": lambda lent: lent.run(9, word="plain"),
     "dwell": LentMachine.dwell,
+    "why": lambda lent: lent.why(0),
     "forget": lambda lent: lent.forget(lent.state.registers.kept),
     "save": LentMachine.save,
     "reset": LentMachine.reset,
@@ -607,9 +613,10 @@ def kept_corners(script):
 
 def length_corners(script):
     """Each call with registers of another length, on a machine where nine would be done and on a broken one, by a tag
-    above SP. A dwell is done with HALT 1, the others with HALT 0. A forget is 10 also where it would be 14."""
+    above SP. A dwell is done with HALT 1, the others with HALT 0. A forget is 10 also where it would be 14, a why where
+    it would be 6."""
     program = single("JUMP 1")
-    calls = [*CALLS.values(), lambda lent: lent.forget(2)]
+    calls = [*CALLS.values(), lambda lent: lent.forget(2), lambda lent: lent.why(lent.state.registers.n)]
     for call, length, halt, tag in product(calls, OTHER_LENGTHS, (0, 1), (INT, CH + 1)):
         state = counted_state(8, 1, 1, SHORT_RECORD, halt)
         state.tags[1] = tag
@@ -818,6 +825,200 @@ def forget_case(chooser, script):
     lent = LentMachine(script, program, state, chooser.choice([REGISTERS] * 20 + OTHER_LENGTHS))
     for _ in range(3):
         lent.forget(forgets.any_number(chooser, lent.state.registers.kept))
+        any_call(chooser, lent)
+
+
+# ---- whys
+
+
+def tried_why(script, key, lent, cell):
+    """The number; what is tried is counted with the cell and the answer."""
+    number = lent.why(cell)
+    script.whys[(*key, cell, number, *lent.told)] += 1
+    return number
+
+
+def asked_corners(script):
+    """Records made by hand, some of them forgotten or taken back: every cell, and beyond; without a history too."""
+    for (name, records), before in product(whys.RECORDS.items(), whys.BEFORE_ASKED):
+        forgotten, backs = before
+        if forgotten + backs > len(records):
+            continue
+        lent = LentMachine(script, forgets.PROGRAM, forgets.machine(records))
+        assert lent.forget(forgotten) == 0
+        assert [lent.back() for _ in range(backs)] == [0] * backs
+        for cell in [*whys.cells_below(forgets.N), *(whys.cells_beyond(forgets.N) if before == (0, 0) else [])]:
+            tried_why(script, ("records", name, *before), lent, cell)
+    bare = LentMachine(script, forgets.PROGRAM, forgets.bare_machine())
+    for cell in [*whys.cells_below(forgets.N), *whys.cells_beyond(forgets.N)]:
+        tried_why(script, ("no history",), bare, cell)
+
+
+def asked_anywhere_corners(script):
+    """Of a machine that is halted or at its end, with any SP: neither is looked at."""
+    for halt, pc, sp, cell in product((0, 1), range(forgets.LENGTH + 1), range(forgets.N), range(forgets.N)):
+        state = forgets.machine(whys.RECORDS["fewer each time"])
+        state.registers = replace(state.registers, halt=halt, pc=pc, sp=sp)
+        tried_why(script, ("anywhere", halt, pc, sp), LentMachine(script, forgets.PROGRAM, state), cell)
+
+
+def asked_place_corners(script):
+    """The PC of a step in a full program, and the table's place there."""
+    for pc in whys.FULL_PCS:
+        state = forgets.machine([forgets.record((1, INT, 40), pc=pc)])
+        tried_why(script, ("place", pc), LentMachine(script, whys.FULL_PROGRAM, state), 1)
+
+
+def asked_table_corners(script):
+    """The program that the records were made under, and broken ones: 10 before 6."""
+    for place, program in enumerate([forgets.PROGRAM, *saves.BROKEN_PROGRAMS]):
+        lent = LentMachine(script, program, forgets.machine(forgets.well_formed(2)))
+        for cell in whys.ODD_ASKED:
+            tried_why(script, ("table", place), lent, cell)
+
+
+def ask_odd(script, name, odd):
+    """This record at every depth: 10 before 6."""
+    for below, above, kept in forgets.odd_depths():
+        lent = LentMachine(script, forgets.PROGRAM, forgets.machine(forgets.among(odd, below, above), kept))
+        for cell in whys.ODD_ASKED:
+            tried_why(script, ("odd", name, below, above, kept), lent, cell)
+
+
+def asked_odd_corners(script):
+    """Records that are ill-formed in every way, and with each bit of a record another; a WRITECH's with nothing
+    written, which is not asked."""
+    for name, odd in forgets.ILL_FORMED.items():
+        ask_odd(script, name, odd)
+    for place, bit in product(range(len(forgets.CELLS) + 1), range(64)):
+        ask_odd(script, (place, bit), forgets.flipped(place, bit))
+    for below, above in forgets.DEPTHS:
+        state = forgets.machine(forgets.among(forgets.WRITING_RECORD, below, above), written=0)
+        tried_why(script, ("unwritten", below, above), LentMachine(script, forgets.PROGRAM, state), 0)
+
+
+def asked_kept_corners(script):
+    """Kept numbers that are those of the records, and every other; then as many records as there can be, all well
+    formed or one not, with their number kept or one less."""
+    for records in forgets.KEPT_RECORDS:
+        for kept, cell in product(forgets.kept_numbers(records), whys.KEPT_ASKED):
+            lent = LentMachine(script, forgets.PROGRAM, forgets.machine(records, kept))
+            tried_why(script, ("kept", len(records), sum(map(len, records)), kept), lent, cell)
+    all_places = [forgets.WELL_FORMED[0]] * HISTORY_LIMIT
+    for at, kept in product((None, *forgets.ODD_PLACES), (HISTORY_LIMIT, HISTORY_LIMIT - 1)):
+        state = forgets.machine(all_places, kept, unused=0)
+        if at is not None:
+            state.history[at] |= 1
+        lent = LentMachine(script, forgets.PROGRAM, state)
+        for cell in whys.FULL_ASKED:
+            tried_why(script, ("full", at, kept), lent, cell)
+
+
+def asked_step_corners(script):
+    """One step of every instruction, over cells that hold INT 0, another thing, and what it writes: each that it wrote
+    by hand is told as it was, and of the others it is told that none wrote them."""
+    for (text, stack, written), h in product(whys.SINGLE_STEPS, (0, whys.CELLS)):
+        program = single(text)
+        states = [whys.single_machine(stack, dead, h) for dead in [(INT, 0), (CH, 76)]]
+        for state in [*states, whys.already_written(program, states[0])]:
+            before = copied(state)
+            lent = LentMachine(script, program, state)
+            assert lent.step() == 0, text
+            for cell in range(whys.CELLS):
+                lent.why(cell)
+                is_told = h > 0 and cell in written
+                told = (1, 1, 0, program.table[0], *before.cell(cell)) if is_told else whys.NONE_WROTE
+                assert lent.told == [*told], (text, cell, lent.told)
+
+
+def asked_size_corners(script):
+    """All cells but the last filled by one step, of machines of several sizes; and a cell written long ago, then
+    forgotten."""
+    for n in whys.FILLED_SIZES:
+        lent = LentMachine(script, single(f"ADDSP {n - 1}"), marked_state(n, n, n, 0))
+        lent.reset()
+        assert lent.step() == 0
+        for cell in [*whys.cells_below(n), *whys.cells_beyond(n)]:
+            tried_why(script, ("filled", n), lent, cell)
+    lent = LentMachine(script, single(whys.LONG_AGO), marked_state(2, 2, HISTORY_LIMIT, 0))
+    lent.reset()
+    lent.run(RUN_LIMIT)
+    for forgotten in range(2):
+        lent.forget(forgotten)
+        for cell in range(3):
+            tried_why(script, ("long ago", forgotten), lent, cell)
+
+
+def back_to_named(script, program, state, cell):
+    """ "the named step did write that cell and no later kept one did": those after it are taken back and the cell stays
+    as it is, and with the named step it is as was told."""
+    lent = LentMachine(script, program, copied(state))
+    assert lent.why(cell) == 0
+    is_found, steps_back, pc, place, *old = lent.told
+    if not is_found:
+        return
+    now = lent.state.cell(cell)
+    for _ in range(steps_back - 1):
+        assert (lent.back(), lent.state.cell(cell)) == (0, now)
+    assert (lent.back(), lent.state.cell(cell)) == (0, tuple(old))
+    assert (lent.state.registers.pc, lent.program.table[pc]) == (pc, place)
+    script.back_to_named[min(steps_back, 3), tuple(old) != now] += 1
+
+
+def asked_session_corners(script):
+    """Sessions with each call before every cell is asked; and each step that was named at the end taken back."""
+    for (source, n, size), h in product(whys.SESSIONS, whys.SESSION_ROOMS):
+        program = depths.program_of(source)
+        lent, counts = LentMachine(script, program, marked_state(n, n, h, size)), Counts()
+        lent.reset()
+        for place, (word, *words) in enumerate(whys.SESSION_CALLS):
+            called(script, lent, counts, word, *words)
+            for cell in range(n + 1):
+                tried_why(script, ("session", source, h, place), lent, cell)
+        for cell in range(n):
+            back_to_named(script, program, lent.state, cell)
+
+
+def asked_after_corners(script):
+    """Each call on records that wrote all cells, done and refused, and then a why; a refused load leaves no registers
+    that are sound."""
+    calls = {**CALLS, "load": lambda lent: lent.load(saves.BASE.image()), "load cut": lambda lent: lent.load(b"")}
+    for (word, call), halt in product(calls.items(), (0, 1)):
+        state = forgets.machine(forgets.well_formed(forgets.MOST_RECORDS))
+        state.registers.halt = halt
+        lent = LentMachine(script, forgets.PROGRAM, state)
+        number = call(lent)
+        script.whys_after[(word, halt, number, lent.why(0), *lent.told)] += 1
+        lent.why(forgets.N)
+
+
+def asked_length_corners(script):
+    """A told and registers of any length, where one wrote the cell, where none did, and where it is 6, on a sound
+    machine and on a broken one."""
+    lengths, tolds = [*OTHER_LENGTHS, REGISTERS], [WHY_TOLD, *other_tolds(WHY_TOLD)]
+    for cell, tag, length, told_length in product(whys.LENGTHS_ASKED, (INT, CH + 1), lengths, tolds):
+        state = forgets.machine(forgets.well_formed(2))
+        state.tags[0] = tag
+        LentMachine(script, forgets.PROGRAM, state, length).why(cell, told_length)
+
+
+def why_corners(script):
+    for corners in (asked_corners, asked_anywhere_corners, asked_place_corners, asked_table_corners, asked_odd_corners,
+                    asked_kept_corners, asked_step_corners, asked_size_corners, asked_session_corners,
+                    asked_after_corners, asked_length_corners):  # fmt: skip
+        corners(script)
+
+
+def why_case(chooser, script):
+    """A machine after some steps, often with a fault; any cells, and other calls between them."""
+    program = made_program(chooser)
+    state = forget_state(chooser, program)
+    if chooser.randrange(16) == 0:
+        program = damaged_program(chooser, program)
+    lent = LentMachine(script, program, state, chooser.choice([REGISTERS] * 20 + OTHER_LENGTHS))
+    for _ in range(3):
+        for _ in range(3):
+            lent.why(whys.any_asked(chooser, lent.state), any_told(chooser, WHY_TOLD))
         any_call(chooser, lent)
 
 
@@ -1606,6 +1807,7 @@ CORNERS = {
     "reset": reset_corners,
     "broken": broken_corners,
     "forget": forget_corners,
+    "why": why_corners,
     "dwell": dwell_corners,
     "save": saving_corners,
     "depths": depth_corners,
@@ -1622,6 +1824,7 @@ FAMILIES = {
     "instruction": (instruction_case, 40),
     "broken": (broken_case, 5),
     "forget": (forget_case, 3),
+    "why": (why_case, 2),
     "dwell": (dwell_case, 6),
     "save": (save_case, 3),
     "depths": (depth_case, 3),

@@ -12,8 +12,8 @@ number that request g speaks of was never given to a call or its steps never all
 record or a WRITECH that request h speaks of was never met, a forget that request i speaks of was never made or never
 refused or the room it gained never used, a depth list that request j speaks of was never accepted or never refused or a
 program with a list never played, a state that request k speaks of was never saved, never loaded or never refused or a
-session never carried on, or a told or registers of another length were never given to a call that would be done or
-refused besides.
+session never carried on, a cell that request l speaks of was never asked, never told of or never refused, or a told or
+registers of another length were never given to a call that would be done or refused besides.
 """
 
 import argparse
@@ -30,7 +30,8 @@ import panel
 import sam
 import saves
 import teaching
-from calls import REGISTERS, STATE_BYTES, Script
+import whys
+from calls import REGISTERS, STATE_BYTES, WHY_TOLD, Script
 from cases import ALLOWED_KEPT, ALLOWED_SIZES, BROKEN_KEPT, CALLS, CORNERS, FAMILIES, OTHER_LENGTHS, REFUSED_SIZES
 from cases import BREAKS, DOUBLE_WORD, JUDGED_STATES, break_record, made_record, other_tolds, wrong_tolds
 from decimals import ALL_MARKS, ILL_FORMED, TOO_LONG
@@ -136,6 +137,7 @@ AFTER_FORGETS = {
     "plain": [0],
     "dwell": [0, 60],
     "forget": [0, 14],
+    "why": [0, 6],
     "save": [0],
     "reset": [0],
 }
@@ -235,6 +237,7 @@ AFTER_LOADS = {
     "plain": [0, 2, 8],
     "dwell": [0, 60],
     "forget": [0],
+    "why": [0],
     "save": [0],
     "load": [0],
     "reset": [0],
@@ -256,6 +259,134 @@ LOADED_CALLS = [
 ]
 # Whether there is a history, and whether anything was taken back and forgotten in such a series.
 FRESH_LOADS = [(False, False, False), *[(True, *was) for was in product((False, True), repeat=2)]]
+# What request l added: the places of the table that the records of whys.py are asked under; and of each cell that the
+# first four of forgets.WELL_FORMED wrote, all five, and other records of whys.py, how many steps back, PC, the table's
+# place, old tag and old bits, by hand.
+JUMP, WRITECH, STOP = 44 << 32 | 1, 53 << 32, 0
+BY_FOUR = {0: (3, 2, STOP, INT, 40), 2: (3, 2, STOP, CH, 127), 3: (1, 0, JUMP, PA, 3)}
+BY_FIVE = {
+    0: (1, 0, JUMP, FLOAT, 0x40200000),
+    1: (1, 0, JUMP, MA, WORD - 1),
+    2: (1, 0, JUMP, CH, 0),
+    3: (1, 0, JUMP, INT, 0),
+}
+FEWER = {
+    0: (1, 0, JUMP, FLOAT, 48),
+    1: (2, 2, STOP, FLOAT, 33),
+    2: (3, 1, WRITECH, FLOAT, 18),
+    3: (4, 0, JUMP, FLOAT, 3),
+}
+FEWER_BACK = {
+    0: (1, 2, STOP, FLOAT, 32),
+    1: (1, 2, STOP, FLOAT, 33),
+    2: (2, 1, WRITECH, FLOAT, 18),
+    3: (3, 0, JUMP, FLOAT, 3),
+}
+FROM_END = {
+    0: (4, 1, WRITECH, MA, 0),
+    1: (3, 2, STOP, MA, 17),
+    2: (2, 0, JUMP, MA, 34),
+    3: (1, 1, WRITECH, MA, 51),
+}
+FROM_END_BACK = {
+    0: (3, 1, WRITECH, MA, 0),
+    1: (2, 2, STOP, MA, 17),
+    2: (1, 0, JUMP, MA, 34),
+    3: (1, 0, JUMP, MA, 35),
+}
+AT_ENDS = {
+    0: (1, 0, JUMP, INT, WORD - 1),
+    1: (1, 0, JUMP, FLOAT, WORD - 1),
+    2: (1, 0, JUMP, PA, 3),
+    3: (1, 0, JUMP, CH, 127),
+}
+AS_HELD = {
+    0: (1, 1, WRITECH, INT, 40),
+    1: (1, 1, WRITECH, CH, 76),
+    2: (1, 1, WRITECH, MA, 0),
+    3: (1, 1, WRITECH, PA, 3),
+}
+
+
+def of_cells(told, *cells):
+    return {cell: told[cell] for cell in cells}
+
+
+# The same by the records, and the steps forgotten and taken back.
+WHO_WROTE = {
+    ("none", 0, 0): {},
+    ("1 of five", 0, 0): {},
+    ("1 of five", 1, 0): {},
+    ("2 of five", 0, 0): {0: (1, 2, STOP, INT, 40), 2: (1, 2, STOP, CH, 127)},
+    ("2 of five", 1, 0): {0: (1, 2, STOP, INT, 40), 2: (1, 2, STOP, CH, 127)},
+    ("2 of five", 2, 0): {},
+    ("3 of five", 0, 0): {0: (2, 2, STOP, INT, 40), 2: (2, 2, STOP, CH, 127)},
+    ("4 of five", 0, 0): BY_FOUR,
+    **{("5 of five", forgotten, 0): BY_FIVE for forgotten in range(5)},
+    ("5 of five", 0, 1): BY_FOUR,
+    ("5 of five", 1, 1): BY_FOUR,
+    ("5 of five", 2, 1): of_cells(BY_FOUR, 3),
+    **{("again and again", forgotten, 0): {0: (1, 0, JUMP, INT, 6)} for forgotten in range(5)},
+    **{("again and again", forgotten, 1): {0: (1, 2, STOP, INT, 5)} for forgotten in range(3)},
+    ("again and again", 0, 2): {0: (1, 1, WRITECH, INT, 4)},
+    **{("fewer each time", forgotten, 0): of_cells(FEWER, *range(4 - forgotten)) for forgotten in range(5)},
+    ("fewer each time", 0, 1): FEWER_BACK,
+    ("fewer each time", 1, 1): of_cells(FEWER_BACK, 0, 1, 2),
+    ("fewer each time", 2, 1): of_cells(FEWER_BACK, 0, 1),
+    **{("from the end", forgotten, 0): of_cells(FROM_END, *range(forgotten, 4)) for forgotten in range(5)},
+    ("from the end", 0, 1): FROM_END_BACK,
+    ("from the end", 1, 1): of_cells(FROM_END_BACK, 1, 2, 3),
+    ("from the end", 2, 1): of_cells(FROM_END_BACK, 2, 3),
+    ("at the ends", 0, 0): AT_ENDS,
+    ("at the ends", 1, 0): {},
+    ("what it held", 0, 0): AS_HELD,
+    ("what it held", 0, 1): {},
+}
+# Records below a WRITECH's with nothing written, and above, and how many steps back cell 0 was written.
+UNWRITTEN = {(0, 0): None, (0, 4): 3, (1, 3): 3, (2, 2): 4, (3, 1): 4, (4, 0): 4}
+# Records, U, and what is told of cells 0 and 3 where the kept number is theirs.
+KEPT_TOLD = {
+    (2, 4): {0: (1, 2, STOP, INT, 40)},
+    (3, 5): {0: (2, 2, STOP, INT, 40)},
+    (3, 15): of_cells(BY_FIVE, 0, 3),
+}
+# A call on five records, HALT, and its number, and what a why of cell 0 then gives.
+NEWEST = BY_FIVE[0][1:]
+WHYS_AFTER = [
+    ("step", 0, 0, 0, 1, 2, *NEWEST),
+    ("step", 1, 1, 0, 1, 1, *NEWEST),
+    *[("back", halt, 0, 0, 1, *BY_FOUR[0]) for halt in (0, 1)],
+    *[(word, 0, 0, 0, 1, 4, *NEWEST) for word in ("run", "plain")],
+    *[(word, 1, 0, 0, 1, 1, *NEWEST) for word in ("run", "plain")],
+    *[("dwell", halt, number, 0, 1, 1, *NEWEST) for halt, number in [(0, 60), (1, 0)]],
+    *[(word, halt, 0, 0, 1, 1, *NEWEST) for word in ("why", "save") for halt in (0, 1)],
+    *[(word, halt, 0, 0, *whys.NONE_WROTE) for word in ("forget", "reset", "load") for halt in (0, 1)],
+    *[("load cut", halt, 41, 10, *whys.NONE_WROTE) for halt in (0, 1)],
+]
+# Instructions that write one cell, and those that wrote what it held.
+ONE_CELL = [
+    *TWO_INTEGERS, "EQUAL", *TWO_FLOATS, "CMPF", *ONE_INTEGER, "ISNIL", *CONVERSIONS,
+    "PUSHIMM", "PUSHIMMF", "PUSHIMMPA", "PUSHIMMCH", "DUP", "PUSHSP", "PUSHFBR", "LINK", "PUSHOFF", "PUSHIND", "JSR",
+    "JSRIND", "STOREOFF", "STOREIND", "ADDSP", "POPSP",
+]  # fmt: skip
+HELD_ALREADY = [
+    *SUMS, "PUSHIMM", "PUSHIMMF", "PUSHIMMPA", "PUSHIMMCH", "DUP", "PUSHSP", "PUSHFBR", "LINK", "PUSHOFF", "JSR",
+    "JSRIND", "STOREOFF", "STOREIND", "ADDSP",
+]  # fmt: skip
+# An instruction, which of the cells that it wrote, and whether the cell held that: where a POPSP writes first is an MA.
+NAMED_STEPS = [
+    *[(name, "only", False) for name in ONE_CELL],
+    *[(name, "only", True) for name in HELD_ALREADY],
+    *product(["SWAP"], ("first", "last"), (False, True)),
+    *product(["ADDSP"], ("first", "between", "last"), (False, True)),
+    ("POPSP", "first", False),
+    *product(["POPSP"], ("between", "last"), (False, True)),
+]
+# HALT, where the cell lies, and how many kept steps wrote it.
+ASKED_CELLS = list(product((0, 1), ("below SP", "at SP", "above SP"), (0, 1, 2)))
+# Steps back of a step that was named and taken back, and whether the cell held another thing before.
+BACK_TO_NAMED = list(product((1, 2, 3), (False, True)))
+WHY_NUMBERS = [(0, 1), (0, 0), (6, 0), (10, 0)]  # number and found
 CUT = 400  # characters of a line that a difference shows
 
 
@@ -386,12 +517,12 @@ def dwell_tests():
 
 def kept_tests():
     """(The call that left the registers, or none; the call; H, U and kept number; number): refused by every call that
-    asks for a sound state, or done by each but a forget, which asks for the records too; and so where a step-back left
-    them, of which a dwell tells most."""
+    asks for a sound state, or done by each but a forget and a why, which ask for the records too; and so where a
+    step-back left them, of which a dwell tells most."""
     asking = [word for word in CALLS if word != "reset"]
     for word, kept in product(asking, BROKEN_KEPT):
         yield None, word, *kept, 10
-    for word, kept in product([word for word in asking if word != "forget"], ALLOWED_KEPT):
+    for word, kept in product([word for word in asking if word not in ("forget", "why")], ALLOWED_KEPT):
         yield None, word, *kept, 0
     for word, kept in product(asking, BROKEN_BY_BACK):
         yield "back", word, *kept, 10
@@ -493,6 +624,73 @@ def fill_tests():
         yield source, h, times, 8
 
 
+def told_why(told, cell, number):
+    """(Cell, number, *told) where these are told of each cell that was written."""
+    is_told = number == 0 and cell in told
+    return cell, number, *((1, *told[cell]) if is_told else whys.NONE_WROTE)
+
+
+def record_whys():
+    """Of records made by hand: every cell, and 6 for those beyond, with a history and without."""
+    beyond = whys.cells_beyond(forgets.N)
+    for key, told in WHO_WROTE.items():
+        yield from (("records", *key, *told_why(told, cell, 0)) for cell in range(forgets.N))
+        if key[1:] == (0, 0):
+            yield from (("records", *key, *told_why({}, cell, 6)) for cell in beyond)
+    yield from (("no history", *told_why({}, cell, 0)) for cell in range(forgets.N))
+    yield from (("no history", *told_why({}, cell, 6)) for cell in beyond)
+    for halt, pc, sp, cell in product((0, 1), range(4), range(forgets.N), range(forgets.N)):
+        yield "anywhere", halt, pc, sp, *told_why(FEWER, cell, 0)
+    for pc in whys.FULL_PCS:
+        yield "place", pc, *told_why({1: (1, pc, 1 << 32 | (pc - 512) % WORD, INT, 40)}, 1, 0)
+    for (below, above), steps_back in UNWRITTEN.items():
+        told = {} if steps_back is None else {0: (steps_back, 2, STOP, INT, 40)}
+        yield "unwritten", below, above, *told_why(told, 0, 0)
+
+
+def refused_whys():
+    """10 for a record that is ill-formed at any depth, for a broken table and for a kept number that is not that of the
+    records, before 6."""
+    for (below, above, kept), cell in product(forgets.odd_depths(), whys.ODD_ASKED):
+        for name in (*forgets.ILL_FORMED, *forgets.JUDGED_BITS):
+            yield "odd", name, below, above, kept, *told_why({}, cell, 10)
+    for place, cell in product(range(1, len(saves.BROKEN_PROGRAMS) + 1), whys.ODD_ASKED):
+        yield "table", place, *told_why({}, cell, 10)
+    for records in forgets.KEPT_RECORDS:
+        key = len(records), sum(map(len, records))
+        for kept, cell in product(forgets.kept_numbers(records), whys.KEPT_ASKED):
+            number = 10 if kept != len(records) else 6 if cell >= forgets.N else 0
+            yield "kept", *key, kept, *told_why(KEPT_TOLD.get(key, {}), cell, number)
+    most = forgets.HISTORY_LIMIT
+    for at, kept, cell in product((None, *forgets.ODD_PLACES), (most, most - 1), whys.FULL_ASKED):
+        is_broken = at is not None or kept != most
+        yield "full", at, kept, *told_why({}, cell, 10 if is_broken else 6 if cell >= forgets.N else 0)
+
+
+def session_whys():
+    """Cells filled by one step; a cell written long ago; and the complaint, at the trial and after the step-back."""
+    for n in whys.FILLED_SIZES:
+        filled = dict.fromkeys(range(n - 1), (1, 0, 39 << 32 | n - 1, INT, 0))
+        yield from (("filled", n, *told_why(filled, cell, 0)) for cell in whys.cells_below(n))
+        yield from (("filled", n, *told_why({}, cell, 6)) for cell in whys.cells_beyond(n))
+    pushed = {0: (8191, 0, 1 << 32 | 40, INT, 0)}
+    for cell, number in [(0, 0), (1, 0), (2, 6)]:
+        yield "long ago", 0, *told_why(pushed, cell, number)
+        yield "long ago", 1, *told_why({}, cell, number)
+    complaint, *_ = whys.SESSIONS[0]
+    seconds = (1, 2 << 32 | 0x40200000, INT, 0)
+    trial = {0: (1, 2, 43 << 32, INT, 40), 1: (2, *seconds)}
+    back = {0: (2, 0, 1 << 32 | 40, INT, 0), 1: (1, *seconds)}
+    for (call, told), cell in product([(2, trial), (3, back)], range(4)):
+        yield "session", complaint, 64, call, *told_why(told, cell, 0)
+
+
+def why_tests():
+    """(What is tried, .., cell, number, *told) of a why."""
+    for tests in (record_whys, refused_whys, session_whys):
+        yield from tests()
+
+
 def character_steps():
     """(Call, name, number) on characters alone: 4 of an instruction that does not take them."""
     for word in ("step", "plain"):
@@ -532,6 +730,10 @@ def length_tests():
         for line, done in product(("reset", "step", "back", "forget 1", "dwell 1", f"save {STATE_BYTES} 1"), (0, 10)):
             yield line, done, length, 10
         yield "forget 2", 14, length, 10
+        for cell, number in [(0, 0), (0, 10), (2, 6), (2, 10)]:
+            yield f"why {cell} {WHY_TOLD}", number, length, 10
+        for cell, told_length in product(whys.LENGTHS_ASKED, other_tolds(WHY_TOLD)):
+            yield f"why {cell} {told_length}", 31, length, 31
         yield "reset", 11, length, 11
         for told_length in other_tolds(1):
             yield f"dwell {told_length}", 31, length, 31
@@ -718,8 +920,8 @@ def all_met(script):
     test of FLOATs, sum and conversion by the proved step and by the direct run, to sums and conversions refused with
     and without a history, to every kind of decimal, to the last codes, to every dwell, to every kept number, to every
     output, character, record and WRITECH that request h speaks of, to every forget and its room, to every depth list
-    and every call with one, to every state saved and image loaded and every session carried on, and to a told and
-    registers of another length wherever they are refused."""
+    and every call with one, to every state saved and image loaded and every session carried on, to every why, and to a
+    told and registers of another length wherever they are refused."""
     lines = product(FAULTS, (1, 2))
     single_tests = [*FLOAT_TESTS, *sum_tests(), *CONVERSION_TESTS, *CHARACTER_TESTS]
     tests = [(word, *test) for word in ("step", "plain") for test in single_tests]
@@ -732,6 +934,7 @@ def all_met(script):
     damaged = [(what, number) for what, numbers in DAMAGED.items() for number in numbers]
     listed_calls = [(word, number) for word, numbers in LISTED_CALLS.items() for number in numbers]
     depth_tolds = product(other_tolds(1), (0, *depths.ORDER[1:]))
+    why_tolds = [(told_length, *of) for told_length, of in product(other_tolds(WHY_TOLD), WHY_NUMBERS)]
     complete = [
         all_in(script.numbers, ALL_NUMBERS, "never given back"),
         all_in(script.fault_lines, lines, "faults never in the first line (1) or never in a later one (2)"),
@@ -771,6 +974,12 @@ def all_met(script):
         all_in(script.carried, CARRIED, "sessions (histories, who was refused first, number) never carried on"),
         all_in(script.loaded_calls, LOADED_CALLS, "calls (any history, call, number) never made from a load"),
         all_in(script.fresh_loads, FRESH_LOADS, "series from a load (any history, back, forgotten) never made"),
+        all_in(script.whys, why_tests(), "whys (what is tried, .., cell, number, *told) never asked"),
+        all_in(script.whys_after, WHYS_AFTER, "whys (call before, HALT, its number, number, *told) never asked"),
+        all_in(script.named_steps, NAMED_STEPS, "steps (name, which of its cells, held already) never named"),
+        all_in(script.asked_cells, ASKED_CELLS, "cells (HALT, where, how many wrote it) never asked"),
+        all_in(script.back_to_named, BACK_TO_NAMED, "steps (steps back, changed) never named and taken back"),
+        all_in(script.why_tolds, why_tolds, "whys (told's length, number alone, found) never refused"),
         all_in(script.wrong_tolds, told_tests(), "writers (told's, output's length, number of input) never refused"),
         all_in(script.register_lengths, length_tests(), "calls (number with nine, length, number) never refused"),
         all_in(script.resets, reset_tests(), "resets (registers, cells, tags, history, output, number) never made"),

@@ -214,6 +214,14 @@ static void call_dwell(void) {
                             output.count, data(&told), told.count));
 }
 
+static void call_why(void) {
+    uint64_t cell = read_number();
+    lend(&told, read_number());
+    print_machine(sam_why(data(&table), table.count, length, cell, data(&registers), registers.count, data(&bits),
+                          bits.count, data(&tags), tags.count, data(&history), history.count, data(&output),
+                          output.count, data(&told), told.count));
+}
+
 static void call_save(void) {
     lend(&written, read_number());
     lend(&told, read_number());
@@ -268,6 +276,7 @@ static void obey(const char *word) {
     else if (strcmp(word, "forget") == 0) call_forget();
     else if (strcmp(word, "run") == 0) call_run(sam_run);
     else if (strcmp(word, "dwell") == 0) call_dwell();
+    else if (strcmp(word, "why") == 0) call_why();
     else if (strcmp(word, "depths") == 0) call_depths();
     else if (strcmp(word, "save") == 0) call_save();
     else if (strcmp(word, "load") == 0) call_load();

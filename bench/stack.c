@@ -25,11 +25,13 @@ enum { PAIRS = SAM_TABLE_PLACES / 16, STEPS = 1000, FORGOTTEN = 3 };
 static char source[SAM_SOURCE_LIMIT];
 static size_t source_len, image_len, state_len;
 static uint8_t text[SAM_TEXT_BYTES], image[SAM_IMAGE_BYTES], state[SAM_STATE_BYTES];
-static uint64_t table[SAM_TABLE_PLACES], length, told[SAM_ASSEMBLE_TOLD];
+static uint64_t table[SAM_TABLE_PLACES], length, told[SAM_WHY_TOLD];
 static uint64_t registers[SAM_REGISTERS], history[SAM_HISTORY_LIMIT];
 static uint32_t bits[SAM_CELL_LIMIT];
 static uint8_t tags[SAM_CELL_LIMIT], output[SAM_OUTPUT_LIMIT];
 static uint16_t depths[SAM_TABLE_PLACES];
+
+static uint64_t asked; /* the cell of a why */
 
 static uint32_t number; /* what the last call gave */
 
@@ -73,6 +75,11 @@ static void dwell(void) {
                        SAM_CELL_LIMIT, history, SAM_HISTORY_LIMIT, output, SAM_OUTPUT_LIMIT, told, 1);
 }
 
+static void why(void) {
+    number = sam_why(table, SAM_TABLE_PLACES, length, asked, registers, SAM_REGISTERS, bits, SAM_CELL_LIMIT, tags,
+                     SAM_CELL_LIMIT, history, SAM_HISTORY_LIMIT, output, SAM_OUTPUT_LIMIT, told, SAM_WHY_TOLD);
+}
+
 static void save(void) {
     number = sam_save(table, SAM_TABLE_PLACES, length, registers, SAM_REGISTERS, bits, SAM_CELL_LIMIT, tags,
                       SAM_CELL_LIMIT, history, SAM_HISTORY_LIMIT, output, SAM_OUTPUT_LIMIT, state, SAM_STATE_BYTES,
@@ -107,7 +114,7 @@ static void write_full_source(void) {
     }
 }
 
-enum { TO_ITOF = 1, TO_WRITECH = 9 }; /* steps before these */
+enum { TO_ITOF = 1, TO_WRITECH = 9, MANY_STEPS = 4000 }; /* steps before these, and such as fill most of the history */
 
 /* Cell 0 of a halted machine: 40 tenths, 2.5 seconds, the least FLOAT and the greatest. */
 static const struct cell {
@@ -145,6 +152,12 @@ static void lengthen_state(void) { state_len++; }
 
 static void announce_fewer_cells(void) { state[0]--; }
 
+static void ask_unwritten(void) { asked = SAM_CELL_LIMIT - 1; }
+
+static void ask_beyond(void) { asked = SAM_CELL_LIMIT; }
+
+static void break_oldest(void) { history[0] |= 1; }
+
 /* By how much each code moves SP. */
 static const signed char MOVES[CODES] = {
     0, 1, 1, 1, 0, -1, -1, -1, -1, -1, -1, -1, -1, -1, -1, -1, -1, -1, -1, 0, -1, -1, -1, -1, -1, 0, -1,
@@ -175,7 +188,7 @@ struct row {
     const struct cell *cell; /* where the machine is halted, or none */
     size_t most;             /* bytes, by sam.h */
     uint32_t empty, full;    /* the numbers that the call gives */
-    void (*change)(void);    /* of the long program, its list and its machine's state as it was saved, or none */
+    void (*change)(void);    /* of the long program, its list, its machine, its saved state or the cell, or none */
 };
 
 /* A program, its image, a machine as the row has it, and its state saved. */
@@ -190,6 +203,7 @@ static void prepare(bool is_full, const struct row *row) {
     reset();
     for (int i = 0; i < row->steps; i++) step();
     if (row->cell != NULL) halt_at(row->cell);
+    asked = 0;
     save();
     state_len = told[0];
     list_depths();
@@ -265,6 +279,10 @@ static const struct row ROWS[] = {
     {"dwell FLOAT", dwell, 1, &SECONDS, SAM_DWELL_STACK, 0, 0, NULL},
     {"dwell least", dwell, 1, &LEAST, SAM_DWELL_STACK, 0, 0, NULL},
     {"dwell most", dwell, 1, &GREATEST, SAM_DWELL_STACK, 0, 0, NULL},
+    {"why", why, MANY_STEPS, NULL, SAM_WHY_STACK, 0, 0, NULL},
+    {"why none", why, MANY_STEPS, NULL, SAM_WHY_STACK, 0, 0, ask_unwritten},
+    {"why 6", why, MANY_STEPS, NULL, SAM_WHY_STACK, 0, 6, ask_beyond},
+    {"why 10", why, MANY_STEPS, NULL, SAM_WHY_STACK, 0, 10, break_oldest},
     {"depths", judge, 0, NULL, SAM_DEPTHS_STACK, 66, 0, NULL},
     {"depths every", judge, 0, NULL, SAM_DEPTHS_STACK, 66, 0, list_every_instruction},
     {"depths 66", judge, 0, NULL, SAM_DEPTHS_STACK, 66, 66, end_at_last},

@@ -1,5 +1,5 @@
 #!/usr/bin/env python3
-"""Tests of the interpreter in sam/: the twelve P examples of document 01, its sentences, requests a, b and d to k, and
+"""Tests of the interpreter in sam/: the twelve P examples of document 01, its sentences, requests a, b and d to l, and
 the settled readings.
 
 Every expected value is read off the documents or worked out by hand; none is copied from an output.
@@ -22,7 +22,7 @@ import sam
 from sam import floats
 from sam.actions import CH, FLOAT, INT, MA, PA
 from sam.machine import plain_step
-from sam.table import NAMES
+from sam.table import NAMES, make_place
 
 PLACES = 1024
 WORD = 1 << 32
@@ -1647,6 +1647,7 @@ class KeptNumber(unittest.TestCase):
         self.assertEqual(sam.step(made, state), 10, before)
         self.assertEqual(sam.step_back(made, state), 10, before)
         self.assertEqual([sam.forget(made, state, k) for k in (0, 1, DOUBLE_WORD - 1)], [10] * 3, before)
+        self.assertEqual([sam.why(made, state, cell)[0] for cell in (0, DOUBLE_WORD - 1)], [10] * 2, before)
         self.assertEqual([sam.run(made, state, limit) for limit in (0, 1, 9)], [(10, 0)] * 3, before)
         self.assertEqual(sam.dwell(made, state), (10, 0), before)
         self.assertEqual(contents(state), before)
@@ -2245,6 +2246,20 @@ ILL_FORMED = [
 ]
 
 
+HANDED = "JUMP 1 WRITECH PUSHIMM 2 STOP"  # with records made by hand
+JUNK = DOUBLE_WORD - 1  # no history place: what stands above U is not looked at
+
+
+def recorded(records, text=HANDED, **registers):
+    """A machine with these records, something above U, and two bytes of output written."""
+    places = joined(records)
+    history = places + [JUNK, 5]
+    r = sam.Registers(n=4, h=len(history), used=len(places), kept=len(records), written=2)
+    output = bytearray(b"\xc8\xc9\xca")
+    state = sam.State([40, 76, 3, 4], [INT, CH, MA, PA], history, output, replace(r, **registers))
+    return program(text), state
+
+
 class Forget(unittest.TestCase):
     """Request i: forget the oldest trials."""
 
@@ -2264,18 +2279,7 @@ class Forget(unittest.TestCase):
         (5, 1, [2, 1, 0]), (6, 3, [2, 0, 0]), (6, 3, [2, 0, 0]),
     ]  # fmt: skip
 
-    HANDED = "JUMP 1 WRITECH PUSHIMM 2 STOP"  # with records made by hand
-    JUNK = DOUBLE_WORD - 1  # no history place: what stands above U is not looked at
     MANY = [1 << 32, (1 << 32) + 1, (1 << 32) + 3, 1 << 63, (1 << 63) + 3, DOUBLE_WORD - 1]  # steps to forget
-
-    def by_hand(self, records, text=HANDED, **registers):
-        """A machine with these records, something above U, and two bytes of output written."""
-        places = joined(records)
-        history = places + [self.JUNK, 5]
-        r = sam.Registers(n=4, h=len(history), used=len(places), kept=len(records), written=2)
-        output = bytearray(b"\xc8\xc9\xca")
-        state = sam.State([40, 76, 3, 4], [INT, CH, MA, PA], history, output, replace(r, **registers))
-        return program(text), state
 
     def check_refused(self, made, state, k, number):
         """ "a refusal changes nothing" """
@@ -2337,7 +2341,7 @@ class Forget(unittest.TestCase):
 
     def test_records_made_by_hand(self):
         for records, k in product([[], WELL_FORMED, WELL_FORMED[::-1], WELL_FORMED * 3], range(13)):
-            made, state = self.by_hand(records)
+            made, state = recorded(records)
             if k <= len(records):
                 self.check_done(made, state, k, records)
             else:
@@ -2347,14 +2351,14 @@ class Forget(unittest.TestCase):
         """After 10 there is 14 alone: neither 1 nor 2 nor what the instruction would meet."""
         for registers in [{"halt": 1}, {"pc": 4}, {"sp": 0, "pc": 1}, {"sp": 3, "fbr": 3}, {"written": 0},
                           {"written": 3}]:  # fmt: skip
-            self.check_done(*self.by_hand(WELL_FORMED, **registers), 2, WELL_FORMED)
+            self.check_done(*recorded(WELL_FORMED, **registers), 2, WELL_FORMED)
 
     def test_nothing_written(self):
         """ "at step-back a top record at a WRITECH with nothing written", and not at a forget, wherever it stands."""
         writing = [step_place(1, 2, 0, 0)]
         for records in ([writing], [writing, *WELL_FORMED], [*WELL_FORMED, writing], [writing] * 3):
             for k in range(len(records) + 1):
-                made, state = self.by_hand(records, written=0)
+                made, state = recorded(records, written=0)
                 if records[-1] == writing:
                     self.assertEqual(sam.step_back(made, state), 10)
                 self.check_done(made, state, k, records)
@@ -2362,10 +2366,10 @@ class Forget(unittest.TestCase):
     def test_program_handed(self):
         """The records are judged by the program that the forget is handed."""
         for text, number in [("STOP STOP STOP STOP", 0), ("STOP STOP STOP", 10), ("STOP STOP STOP STOP STOP", 0)]:
-            made, state = self.by_hand(WELL_FORMED[:2], text, pc=0)
+            made, state = recorded(WELL_FORMED[:2], text, pc=0)
             state.set_cell(3, INT, 0)
             self.assertEqual(sam.forget(made, state, 1), number)  # of a step at PC 3
-        made, state = self.by_hand([[cell_place(0, PA, 4), step_place()]] * 2, "STOP STOP STOP", pc=0)
+        made, state = recorded([[cell_place(0, PA, 4), step_place()]] * 2, "STOP STOP STOP", pc=0)
         state.set_cell(3, INT, 0)
         self.check_broken(made, state)
 
@@ -2373,7 +2377,7 @@ class Forget(unittest.TestCase):
 
     def test_above_the_kept_number(self):
         for count in range(5):
-            made, state = self.by_hand(WELL_FORMED[:count])
+            made, state = recorded(WELL_FORMED[:count])
             for k in (count + 1, count + 2, (1 << 32) + count, *self.MANY):
                 self.check_refused(made, state, k, 14)
             self.check_done(made, state, count, WELL_FORMED[:count])
@@ -2394,12 +2398,12 @@ class Forget(unittest.TestCase):
         good = WELL_FORMED
         for bad in ILL_FORMED:
             for records in ([bad], [bad, *good], [*good[:2], bad, *good[2:]], [*good, bad], [bad, bad]):
-                self.check_broken(*self.by_hand(records))
+                self.check_broken(*recorded(records))
 
     def test_top_record_alone_at_a_step_back(self):
         """A step-back asks nothing of those below, and a step of none."""
         for bad in ILL_FORMED:
-            made, state = self.by_hand([bad, WELL_FORMED[1]])
+            made, state = recorded([bad, WELL_FORMED[1]])
             self.check_broken(made, state)
             self.assertEqual((sam.step_back(made, state), state.registers.used), (0, 3))
 
@@ -2410,8 +2414,8 @@ class Forget(unittest.TestCase):
             ([0, one], 1),
             ([0, one], 2),
             ([cell_place(0), one], 1),
-            ([self.JUNK, one], 1),
-            ([self.JUNK, cell_place(0), step_place()], 1),
+            ([JUNK, one], 1),
+            ([JUNK, cell_place(0), step_place()], 1),
             ([0, 0, 0, one], 1),
             ([0], 1),
             ([step_place()], 1),  # of a cell that is not there
@@ -2420,14 +2424,14 @@ class Forget(unittest.TestCase):
             ([step_place(), cell_place(0), step_place()], 2),
             ([cell_place(0), step_place(written=2), one, one], 3),
         ]:
-            made, state = self.by_hand([])
+            made, state = recorded([])
             state.history[:] = places
             state.registers = replace(state.registers, h=len(places), used=len(places), kept=kept)
             self.check_broken(made, state)
 
     def test_cut_from_the_top(self):
         """By each step place's count, whatever marks stand below: a record of a cell place that has a mark is none."""
-        made, state = self.by_hand([[step_place(0, 0, 0, 0), step_place()]])
+        made, state = recorded([[step_place(0, 0, 0, 0), step_place()]])
         self.check_broken(made, state)
         state.registers.kept = 2  # the step places
         self.check_broken(made, state)
@@ -2437,7 +2441,7 @@ class Forget(unittest.TestCase):
         for records in (WELL_FORMED, WELL_FORMED[1:2], [WELL_FORMED[0]] * 5):
             used = len(joined(records))
             for kept in range(used + 3):
-                made, state = self.by_hand(records, kept=kept)
+                made, state = recorded(records, kept=kept)
                 if kept == len(records):
                     self.check_done(made, state, kept, records)
                     continue
@@ -2447,34 +2451,34 @@ class Forget(unittest.TestCase):
     def test_records_of_an_unsound_kept_number(self):
         """As for a step: above U, or 0 with U above 0."""
         for kept in (0, 12, 1 << 32, (1 << 32) + 4, 1 << 63, DOUBLE_WORD - 1):
-            self.check_broken(*self.by_hand(WELL_FORMED, kept=kept))
+            self.check_broken(*recorded(WELL_FORMED, kept=kept))
         for kept in (1, 1 << 32, DOUBLE_WORD - 1):
-            self.check_broken(*self.by_hand([], kept=kept))
+            self.check_broken(*recorded([], kept=kept))
 
     def test_broken_registers(self):
         """What is 10 of a step is 10 of a forget."""
         for registers in [{"n": 3}, {"n": 5}, {"h": 12}, {"h": 14}, {"sp": 4}, {"fbr": 4}, {"pc": 5}, {"halt": 2},
                           {"used": 14}, {"used": 0}, {"written": 4}, {"n": 0}, {"used": DOUBLE_WORD - 1}]:  # fmt: skip
-            self.check_broken(*self.by_hand(WELL_FORMED, **registers))
+            self.check_broken(*recorded(WELL_FORMED, **registers))
 
     def test_broken_memory(self):
         for address, tag, bits in [(0, 5, 0), (3, 255, 0), (1, CH, 128), (3, PA, 5)]:
-            made, state = self.by_hand(WELL_FORMED)
+            made, state = recorded(WELL_FORMED)
             state.set_cell(address, tag, bits)
             self.check_broken(made, state)
         for name in ("bits", "tags", "history"):
-            made, state = self.by_hand(WELL_FORMED)
+            made, state = recorded(WELL_FORMED)
             getattr(state, name).append(0)
             self.check_broken(made, state)
-            made, state = self.by_hand(WELL_FORMED)
+            made, state = recorded(WELL_FORMED)
             getattr(state, name).pop()
             self.check_broken(made, state)
-        made, state = self.by_hand(WELL_FORMED)
+        made, state = recorded(WELL_FORMED)
         state.output[:] = bytes(257)
         self.check_broken(made, state)
 
     def test_broken_table(self):
-        made, state = self.by_hand(WELL_FORMED)
+        made, state = recorded(WELL_FORMED)
         for table, length in [(made.table, 1025), (made.table[:-1], 4), (made.table + [0], 4), (made.table, 3),
                               ([54 << 32] + made.table[1:], 4), (made.table[:-1] + [1], 4)]:  # fmt: skip
             self.check_broken(sam.Program(table, length), state)
@@ -3550,6 +3554,385 @@ class SavedState(unittest.TestCase):
                 for _ in range(8):
                     counts = self.any_call(chooser, made, state, counts)
                     self.check_demand(made, image, state, counts)
+
+
+class Why(unittest.TestCase):
+    """Request l: why does this cell hold that? An answer is (number, found, steps back, PC, the table's place, old tag,
+    old bits)."""
+
+    NONE = (0, 0, 0, 0, 0, 0, 0)  # "no kept step wrote the cell"
+    BROKEN = (10, 0, 0, 0, 0, 0, 0)  # "a refusal tells zeros"
+    NO_CELL = (6, 0, 0, 0, 0, 0, 0)
+    # Not below N = 4, also with the number of a cell in the lowest bits.
+    BEYOND = [
+        4, 5, 256, 259, 1000, 1023, 1024, 1027, 1 << 16, (1 << 16) + 3, 1 << 32, (1 << 32) + 1, (1 << 32) + 3, 1 << 63,
+        (1 << 63) + 2, DOUBLE_WORD - 1,
+    ]  # fmt: skip
+
+    def ask(self, made, state, cell):
+        """ "the call changes nothing" """
+        before, table = contents(state), list(made.table)
+        answer = sam.why(made, state, cell)
+        self.assertEqual((contents(state), made.table), (before, table))
+        return answer
+
+    def check_told(self, made, state, told):
+        """What is told of each of these cells; of all others that no kept step wrote them."""
+        for cell in range(state.registers.n):
+            answer = (0, 1, *told[cell]) if cell in told else self.NONE
+            self.assertEqual(self.ask(made, state, cell), answer, cell)
+
+    def check_broken(self, made, state):
+        """10 whatever the cell is: "10 as in i), then 6"."""
+        for cell in (0, 1, 3, *self.BEYOND):
+            self.assertEqual(self.ask(made, state, cell), self.BROKEN, (cell, contents(state)))
+
+    # ---- which step it was
+
+    # Places of the table, and of seven steps (Forget.PROGRAM) what is told of cells 0 to 2 after so many of them.
+    PUSHIMM_1, DUP, SWAP, ADD, ADDSP_2 = 1 << 32 | 1, 3 << 32, 4 << 32, 5 << 32, 39 << 32 | 2
+    SEVEN = [
+        {},
+        {0: (1, 0, PUSHIMM_1, INT, 0)},
+        {0: (2, 0, PUSHIMM_1, INT, 0), 1: (1, 1, DUP, INT, 0)},
+        {0: (1, 2, SWAP, INT, 1), 1: (1, 2, SWAP, INT, 1)},  # of two equal values
+        {0: (1, 3, ADD, INT, 1), 1: (2, 2, SWAP, INT, 1)},
+        {0: (2, 3, ADD, INT, 1), 1: (3, 2, SWAP, INT, 1)},  # a JUMP writes no cell
+        {0: (3, 3, ADD, INT, 1), 1: (1, 5, ADDSP_2, INT, 1), 2: (1, 5, ADDSP_2, INT, 0)},
+        {0: (4, 3, ADD, INT, 1), 1: (2, 5, ADDSP_2, INT, 1), 2: (2, 5, ADDSP_2, INT, 0)},  # nor does a STOP
+    ]
+
+    def test_steps_and_back(self):
+        """After each step, and again after each step-back."""
+        made, state = started(Forget.PROGRAM, h=14)
+        for told in self.SEVEN:
+            self.check_told(made, state, told)
+            sam.step(made, state)
+        for told in self.SEVEN[-2::-1]:
+            self.assertEqual(sam.step_back(made, state), 0)
+            self.check_told(made, state, told)
+
+    def test_forgotten(self):
+        """ "the newest kept step": the ADD is the fourth, the ADDSP the sixth of seven."""
+        for forgotten in range(8):
+            made, state = started(Forget.PROGRAM, h=14)
+            self.assertEqual((sam.run(made, state, 9), sam.forget(made, state, forgotten)), ((0, 7), 0))
+            kept = [cell for cell, place in [(0, 4), (1, 6), (2, 6)] if place > forgotten]
+            self.check_told(made, state, {cell: self.SEVEN[7][cell] for cell in kept})
+
+    def test_complaint(self):
+        """P12: the trial's step, with the 40 tenths before it; after the step-back the PUSHIMM of these."""
+        made, state = started("PUSHIMM 40 PUSHIMMF #40200000 STOREOFF 0", h=6)
+        pushed, seconds, stored = 1 << 32 | 40, 2 << 32 | 0x40200000, 43 << 32
+        self.assertEqual(sam.run(made, state, 3), (50, 3))
+        self.check_told(made, state, {0: (1, 2, stored, INT, 40), 1: (2, 1, seconds, INT, 0)})
+        self.assertEqual(sam.step_back(made, state), 0)
+        self.check_told(made, state, {0: (2, 0, pushed, INT, 0), 1: (1, 1, seconds, INT, 0)})
+        self.assertEqual((sam.step(made, state), sam.forget(made, state, 2)), (0, 0))
+        self.check_told(made, state, {0: (1, 2, stored, INT, 40)})
+        self.assertEqual(sam.step_back(made, state), 0)
+        self.check_told(made, state, {})
+
+    def test_again_and_again(self):
+        """Of many that wrote the cell the newest: a loop that counts down from 3 in cell 0."""
+        made, state = started("PUSHIMM 3 a: PUSHIMM 1 SUB DUP JUMPC a STOP", n=4, h=64)
+        self.assertEqual(sam.run(made, state, 99), (0, 14))
+        sub, dup = (3, 2, 6 << 32, INT, 1), (2, 3, 3 << 32, INT, 1)  # 0 over 1; the copy of 0 over the 1 that was taken
+        self.check_told(made, state, {0: (sub[0] + 1, *sub[1:]), 1: (dup[0] + 1, *dup[1:])})
+        for _ in range(5):  # STOP, JUMPC, DUP, SUB, PUSHIMM
+            self.assertEqual(sam.step_back(made, state), 0)
+        self.check_told(made, state, {0: (3, 2, 6 << 32, INT, 2), 1: (2, 3, 3 << 32, INT, 1)})
+
+    def test_fills(self):
+        """Each cell that a step filled, the first, the last and those between."""
+        made, state = started("PUSHIMM 7 PUSHIMM 8 ADDSP -1 ADDSP 3", n=8, h=16)
+        self.assertEqual(sam.run(made, state, 4), (50, 4))
+        fill = 39 << 32 | 3
+        told = {0: (4, 0, 1 << 32 | 7, INT, 0), 1: (1, 3, fill, INT, 8)}
+        self.check_told(made, state, {**told, 2: (1, 3, fill, INT, 0), 3: (1, 3, fill, INT, 0)})
+        # POPSP to 4 takes its MA off first: it writes cell 1, where that stood, 2 and 3.
+        made, state = started("PUSHIMM 7 PUSHSP PUSHIMM 3 ADD POPSP", n=8, h=16)
+        self.assertEqual(sam.run(made, state, 5), (50, 5))
+        self.assertEqual((state.registers.sp, live(state)), (4, [(INT, 7), (INT, 0), (INT, 0), (INT, 0)]))
+        fill = 35 << 32
+        told = {0: (5, 0, 1 << 32 | 7, INT, 0), 1: (1, 4, fill, MA, 4)}
+        self.check_told(made, state, {**told, 2: (1, 4, fill, INT, 3), 3: (1, 4, fill, INT, 0)})
+
+    def test_swap(self):
+        """Both cells, each with what it held."""
+        made, state = started("PUSHIMM 7 PUSHIMMCH 65 SWAP", n=4, h=16)
+        self.assertEqual(sam.run(made, state, 3), (50, 3))
+        self.check_told(made, state, {0: (1, 2, 4 << 32, INT, 7), 1: (1, 2, 4 << 32, CH, 65)})
+
+    def test_stores(self):
+        """The cell stored to, and not the one that is taken off."""
+        made, state = started("PUSHIMMPA 1 LINK PUSHFBR PUSHIMMF 2.5 STOREIND PUSHIMMCH 9 STOREOFF -1", n=8, h=32)
+        self.assertEqual(sam.run(made, state, 5), (50, 5))
+        told = {0: (5, 0, 49 << 32 | 1, INT, 0), 2: (3, 2, 36 << 32, INT, 0), 3: (2, 3, 2 << 32 | 0x40200000, INT, 0)}
+        self.check_told(made, state, {**told, 1: (1, 4, 41 << 32, MA, 0)})
+        self.assertEqual(sam.run(made, state, 2), (50, 2))
+        self.check_told(made, state, {
+            0: (1, 6, 43 << 32 | WORD - 1, PA, 1), 1: (3, 4, 41 << 32, MA, 0), 2: (2, 5, 52 << 32 | 9, MA, 1),
+            3: (4, 3, 2 << 32 | 0x40200000, INT, 0),
+        })  # fmt: skip
+
+    def test_what_it_held(self):
+        """ "An unchanged cell that is written counts." """
+        made, state = started("PUSHIMM 7 DUP STOREOFF 0 ADDSP 1 ADDSP -1 ADDSP 1", n=4, h=16)
+        self.assertEqual(sam.run(made, state, 3), (50, 3))
+        self.check_told(made, state, {0: (1, 2, 43 << 32, INT, 7), 1: (2, 1, 3 << 32, INT, 0)})
+        self.assertEqual(sam.run(made, state, 3), (50, 3))
+        self.check_told(made, state, {0: (4, 2, 43 << 32, INT, 7), 1: (1, 5, 39 << 32 | 1, INT, 0)})
+
+    def test_from_sp_on(self):
+        """ "Popped cells otherwise keep their contents", and may be asked: at SP and above."""
+        made, state = started("PUSHIMM 7 PUSHIMM 8 ADDSP -2", n=4, h=8)
+        self.assertEqual((sam.run(made, state, 3), state.registers.sp), ((50, 3), 0))
+        self.check_told(made, state, {0: (3, 0, 1 << 32 | 7, INT, 0), 1: (2, 1, 1 << 32 | 8, INT, 0)})
+
+    def test_no_history(self):
+        """No step is kept."""
+        made, state = started(Forget.PROGRAM, n=4)
+        for _ in range(8):
+            self.check_told(made, state, {})
+            self.assertEqual([self.ask(made, state, cell) for cell in self.BEYOND], [self.NO_CELL] * len(self.BEYOND))
+            sam.step(made, state)
+        state.registers.kept = 1  # above U
+        self.check_broken(made, state)
+
+    def test_new_origin(self):
+        """No step before a reset or a load is kept."""
+        made, state = started(Forget.PROGRAM, n=4, h=14)
+        sam.run(made, state, 9)
+        image = bytearray(4638)
+        _, length = sam.save(made, state, image)
+        self.check_told(made, state, self.SEVEN[7])
+        self.assertEqual(sam.load(made, state, image[:length]), 0)
+        self.check_told(made, state, {})
+        sam.reset(made, state)
+        self.check_told(made, state, {})
+        self.assertEqual((sam.run(made, state, 2), sam.load(made, state, b"")), ((50, 2), 41))
+        self.check_broken(made, state)  # the registers are zero
+
+    # ---- records made by hand
+
+    HANDED_PLACES = [44 << 32 | 1, 53 << 32, 1 << 32 | 2, 0]
+
+    def told_of(self, steps_back, pc, tag, bits):
+        return steps_back, pc, self.HANDED_PLACES[pc], tag, bits
+
+    def test_records_made_by_hand(self):
+        """A record need not fit its instruction: here a STOP and a JUMP wrote cells."""
+        told = self.told_of
+        for records, expected in [
+            ([], {}),
+            (WELL_FORMED[:1], {}),
+            (WELL_FORMED[:2], {0: told(1, 3, FLOAT, 7), 2: told(1, 3, CH, 127)}),
+            (WELL_FORMED[:3], {0: told(2, 3, FLOAT, 7), 2: told(2, 3, CH, 127), 3: told(1, 2, PA, 4)}),
+            (WELL_FORMED, {0: told(1, 0, INT, 0), 1: told(1, 0, MA, WORD - 1), 2: told(1, 0, CH, 0),
+                           3: told(1, 0, INT, 0)}),
+            (WELL_FORMED[::-1], {0: told(2, 3, FLOAT, 7), 1: told(4, 0, MA, WORD - 1), 2: told(2, 3, CH, 127),
+                                 3: told(3, 2, PA, 4)}),
+        ]:  # fmt: skip
+            self.check_told(*recorded(records), expected)
+
+    def test_each_bit(self):
+        """Of the tag, of the bits and of the PC."""
+        for tag, bits in [*[(INT, 1 << bit) for bit in range(32)], (FLOAT, WORD - 1), (MA, 1 << 31), (PA, 4), (CH, 0)]:
+            records = [[cell_place(2, tag, bits), step_place(2)]]
+            self.check_told(*recorded(records), {2: self.told_of(1, 2, tag, bits)})
+        made = sam.Program([make_place(1, place) for place in range(1024)], 1024)
+        for pc in [0, 1023, *[1 << bit for bit in range(10)]]:
+            _, state = recorded([[cell_place(2, MA, 9), step_place(pc)]])
+            self.check_told(made, state, {2: (1, pc, 1 << 32 | pc, MA, 9)})
+
+    def test_any_machine_that_is_sound(self):
+        """Neither HALT nor PC nor SP nor the instruction there is looked at, nor whether anything is written."""
+        told = {0: self.told_of(2, 3, FLOAT, 7), 2: self.told_of(2, 3, CH, 127), 3: self.told_of(1, 2, PA, 4)}
+        for registers in [{"halt": 1}, {"pc": 4}, {"sp": 0, "pc": 1}, {"sp": 3, "fbr": 3}, {"written": 0},
+                          {"written": 3}]:  # fmt: skip
+            self.check_told(*recorded(WELL_FORMED[:3], **registers), told)
+
+    def test_nothing_written(self):
+        """A WRITECH's record with nothing written is a step-back's question alone."""
+        writing = [step_place(1, 2, 0, 0)]
+        for records, steps_back in [([WELL_FORMED[1], writing], 2), ([writing, WELL_FORMED[1]], 1)]:
+            made, state = recorded(records, written=0)
+            told = [self.told_of(steps_back, 3, *cell) for cell in [(FLOAT, 7), (CH, 127)]]
+            self.check_told(made, state, {0: told[0], 2: told[1]})
+
+    def test_program_handed(self):
+        """ "the instruction" is that of the program that is handed, and so are the records judged."""
+        for text, place in [("STOP STOP DUP STOP", 3 << 32), ("STOP STOP PUSHIMM -1 STOP STOP", 2 * WORD - 1)]:
+            made, state = recorded(WELL_FORMED[2:3], text, pc=0)
+            self.check_told(made, state, {3: (1, 2, place, PA, 4)})
+        made, state = recorded(WELL_FORMED[2:3], "STOP STOP STOP", pc=0)  # PA 4 is above its length
+        state.set_cell(3, INT, 0)
+        self.check_broken(made, state)
+
+    def test_full_history(self):
+        """8,192 places: the PUSHIMM has two of them, and 8,190 JUMPs have one each."""
+        made, state = started("PUSHIMM 40 a: JUMP a", n=4, h=8192)
+        self.assertEqual(sam.run(made, state, 9999), (8, 8191))
+        self.check_told(made, state, {0: (8191, 0, 1 << 32 | 40, INT, 0)})
+        for at in (0, 1, 2, 4000, 8191):
+            kept, state.history[at] = state.history[at], state.history[at] | 1
+            self.check_broken(made, state)
+            state.history[at] = kept
+        state.registers.kept = 8190
+        self.check_broken(made, state)
+        state.registers.kept = 8191
+        self.assertEqual(sam.forget(made, state, 1), 0)
+        self.check_told(made, state, {})
+        made, state = started("ADDSP 999", n=1000, h=1000)
+        self.assertEqual(sam.step(made, state), 0)
+        self.check_told(made, state, dict.fromkeys(range(999), (1, 0, 39 << 32 | 999, INT, 0)))
+        for cell in (1000, 1001, 1023, 1024, 1999, (1 << 16) + 5, DOUBLE_WORD - 1):
+            self.assertEqual(self.ask(made, state, cell), self.NO_CELL)
+
+    # ---- refusals
+
+    def test_no_cell(self):
+        """ "6 for a cell not below N", whoever wrote the others."""
+        for count, cell in product(range(5), self.BEYOND):
+            self.assertEqual(self.ask(*recorded(WELL_FORMED[:count]), cell), self.NO_CELL)
+
+    def test_ill_formed(self):
+        """At every depth, also below the step that would be named."""
+        good = WELL_FORMED
+        for bad in ILL_FORMED:
+            for records in ([bad], [bad, *good], [*good[:2], bad, *good[2:]], [*good, bad], [bad, bad]):
+                self.check_broken(*recorded(records))
+
+    def test_kept_number(self):
+        for records in (WELL_FORMED, WELL_FORMED[1:2], [WELL_FORMED[0]] * 5):
+            for kept in [*range(len(joined(records)) + 3), (1 << 32) + len(records), DOUBLE_WORD - 1]:
+                if kept != len(records):
+                    self.check_broken(*recorded(records, kept=kept))
+
+    def test_broken_states(self):
+        """What is 10 of a step is 10 of a why."""
+        for registers in [{"n": 3}, {"n": 5}, {"h": 12}, {"h": 14}, {"sp": 4}, {"fbr": 4}, {"pc": 5}, {"halt": 2},
+                          {"used": 14}, {"used": 0}, {"written": 4}, {"n": 0}, {"used": DOUBLE_WORD - 1}]:  # fmt: skip
+            self.check_broken(*recorded(WELL_FORMED, **registers))
+        for address, tag, bits in [(0, 5, 0), (3, 255, 0), (1, CH, 128), (3, PA, 5)]:
+            made, state = recorded(WELL_FORMED)
+            state.set_cell(address, tag, bits)
+            self.check_broken(made, state)
+        for name, change in product(("bits", "tags", "history"), ("append", "pop")):
+            made, state = recorded(WELL_FORMED)
+            lent = getattr(state, name)
+            lent.append(0) if change == "append" else lent.pop()
+            self.check_broken(made, state)
+        made, state = recorded(WELL_FORMED)
+        for table, length in [(made.table, 1025), (made.table[:-1], 4), (made.table + [0], 4), (made.table, 3),
+                              ([54 << 32] + made.table[1:], 4), (made.table[:-1] + [1], 4)]:  # fmt: skip
+            self.check_broken(sam.Program(table, length), state)
+        state.output[:] = bytes(257)
+        self.check_broken(made, state)
+
+    def test_as_a_forget(self):
+        """ "10 as in i)": of records with any bit another it is 10 exactly where a forget of none is."""
+        numbers = Counter()
+        for record, (place, bit) in product(WELL_FORMED, product(range(5), range(64))):
+            if place < len(record):
+                odd = [*record[:place], record[place] ^ 1 << bit, *record[place + 1 :]]
+                made, state = recorded([WELL_FORMED[1], odd, WELL_FORMED[2]])
+                number = sam.forget(made, state, 0)
+                asked = [self.ask(made, state, cell)[0] for cell in (0, 3, 4)]
+                self.assertEqual(asked, [10] * 3 if number else [0, 0, 6], contents(state))
+                numbers[number] += 1
+        self.assertEqual(set(numbers), {0, 10})
+
+    # ---- demand 3: held to a log of what each step did
+
+    def cells_written(self, made, before, after):
+        """Which cells a step wrote, by document 01's "Cells written" alone."""
+        old, new_sp = before.registers, after.registers.sp
+        place = made.table[old.pc]
+        name, operand = NAMES[place >> 32], place % WORD
+        if name in ("STOP", "JUMP", "JUMPC", "JUMPIND", "POPFBR", "WRITECH"):
+            return []
+        if name == "SWAP":
+            return [old.sp - 2, old.sp - 1]
+        if name == "STOREOFF":
+            return [(old.fbr + operand) % WORD]
+        if name == "STOREIND":
+            return [before.bits[old.sp - 2]]
+        if name in ("ADDSP", "POPSP"):
+            return range(old.sp - (name == "POPSP"), new_sp)
+        return [new_sp - 1]
+
+    def copied(self, state):
+        bits, tags, history, output, registers = contents(state)
+        return sam.State(bits, tags, history, bytearray(output), registers)
+
+    def logged_steps(self, made, state, count):
+        """What so many steps of this state do: PC, the table's place, and what each cell that is written held."""
+        log, state = [], self.copied(state)
+        for _ in range(count):
+            before = self.copied(state)
+            self.assertEqual(plain_step(made, state), 0)
+            held = {cell: before.cell(cell) for cell in self.cells_written(made, before, state)}
+            log.append((before.registers.pc, made.table[before.registers.pc], held))
+        return log
+
+    def any_call(self, chooser, made, state, log):
+        """A call, and the log of the steps that are kept after it."""
+        kind, kept, before = chooser.randrange(10), state.registers.kept, self.copied(state)
+        if kind < 3:
+            return log + self.logged_steps(made, before, 1 if sam.step(made, state) == 0 else 0)
+        if kind < 5:
+            return log[:-1] if sam.step_back(made, state) == 0 else log
+        if kind < 8:
+            _, steps = sam.run(made, state, chooser.randrange(16))
+            return log + self.logged_steps(made, before, steps)
+        k = chooser.choice([0, 1, 1, 2, kept, kept + 1, chooser.randrange(kept + 1), (1 << 32) + kept])
+        return log[k:] if sam.forget(made, state, k) == 0 else log
+
+    def told_by_log(self, log, cell):
+        for steps_back, (pc, place, held) in enumerate(reversed(log), start=1):
+            if cell in held:
+                return 0, 1, steps_back, pc, place, *held[cell]
+        return self.NONE
+
+    FILLING = "a: ADDSP 4 SWAP PUSHSP PUSHIMM 3 ADD POPSP ADDSP -7 JUMP a"
+
+    def test_demand(self):
+        """ "the named step did write that cell and no later kept one did", after each call of a series."""
+        chooser, seen = random.Random(12), Counter()
+        for h in [0, 1, 2, 5, 12, 40, 200] * 12:
+            made, n = chooser.choice([drawn_program(chooser), program(self.FILLING)]), chooser.choice([1, 2, 5, 16, 40])
+            state = sam.State([9] * n, [9] * n, [9] * h, bytearray([9] * chooser.choice([0, 1, 4, 256])))
+            self.assertEqual(sam.reset(made, state), 0)
+            log = []
+            for _ in range(16):
+                log = self.any_call(chooser, made, state, log)
+                log = log if h > 0 else []
+                for cell in range(n):
+                    answer = self.ask(made, state, cell)
+                    self.assertEqual(answer, self.told_by_log(log, cell))
+                    seen[min(answer[2], 9), state.cell(cell) == answer[5:]] += 1
+                self.assertEqual(self.ask(made, state, n), self.NO_CELL)
+        for kind in [*product(range(1, 4), (False, True)), *[(steps_back, False) for steps_back in range(4, 10)]]:
+            self.assertIn(kind, seen)
+
+    def test_back_to_the_named(self):
+        """Taken back: until the named step the cell stays, and with it the cell is as was told."""
+        chooser = random.Random(13)
+        for _ in range(60):
+            made, (n, h) = drawn_program(chooser), chooser.choice([(5, 30), (16, 100), (40, 200)])
+            state = sam.State([9] * n, [9] * n, [9] * h, bytearray(4))
+            sam.reset(made, state)
+            sam.run(made, state, chooser.randrange(80))
+            for cell in range(n):
+                _, is_found, steps_back, pc, _, *old = self.ask(made, state, cell)
+                walked, now = self.copied(state), state.cell(cell)
+                for _ in range(steps_back - 1 if is_found else state.registers.kept):
+                    self.assertEqual((sam.step_back(made, walked), walked.cell(cell)), (0, now))
+                if is_found:
+                    self.assertEqual((sam.step_back(made, walked), walked.cell(cell)), (0, tuple(old)))
+                    self.assertEqual(walked.registers.pc, pc)
 
 
 class Soundness(unittest.TestCase):

@@ -1,4 +1,4 @@
-/* Tests of the C library through sam.h: the complaint of document 01, those of requests b and d, requests e to k, and
+/* Tests of the C library through sam.h: the complaint of document 01, those of requests b and d, requests e to l, and
  * samples of every refusal. One line for each check. */
 #include <stdbool.h>
 #include <stdio.h>
@@ -30,7 +30,9 @@ static void check(const char *name, uint64_t expected, uint64_t answered) {
 
 /* ---- a program and a machine to call with */
 
-static uint64_t table[SAM_TABLE_PLACES + 1], told[SAM_ASSEMBLE_TOLD + 1];
+enum { MOST_TOLD = SAM_WHY_TOLD + 2 }; /* more than any call tells */
+
+static uint64_t table[SAM_TABLE_PLACES + 1], told[MOST_TOLD];
 static uint64_t length;
 static uint8_t text[SAM_TEXT_BYTES + 1], image[SAM_IMAGE_BYTES + 1];
 
@@ -46,11 +48,11 @@ static size_t n, h, output_len = SAM_OUTPUT_LIMIT;
 enum { MARK = 77 }; /* in lent memory, where a write is to be seen */
 
 static void mark_told(void) {
-    for (size_t i = 0; i <= SAM_ASSEMBLE_TOLD; i++) told[i] = MARK;
+    for (size_t i = 0; i < MOST_TOLD; i++) told[i] = MARK;
 }
 
 static void check_told_marked(size_t from) {
-    for (size_t i = from; i <= SAM_ASSEMBLE_TOLD; i++) check("  told unchanged", MARK, told[i]);
+    for (size_t i = from; i < MOST_TOLD; i++) check("  told unchanged", MARK, told[i]);
 }
 
 static void check_told(uint64_t made, uint64_t place, uint64_t line, uint64_t column) {
@@ -625,6 +627,40 @@ static void check_not_saved(const char *name, size_t registers_len, size_t image
     check_unchanged("  nothing else written");
 }
 
+static uint32_t why_with(uint64_t cell, size_t registers_len, size_t told_len) {
+    return sam_why(table, SAM_TABLE_PLACES, length, cell, registers, registers_len, bits, n, tags, n, history, h,
+                   output, output_len, told, told_len);
+}
+
+/* What a why tells. */
+struct wrote {
+    uint64_t found, steps_back, pc, place, tag, value;
+};
+
+static const struct wrote NONE_WROTE = {0, 0, 0, 0, 0, 0};
+
+static void check_wrote(struct wrote expected) {
+    check("  found", expected.found, told[SAM_FOUND]);
+    check("  steps back", expected.steps_back, told[SAM_STEPS_BACK]);
+    check("  its PC", expected.pc, told[SAM_STEP_PC]);
+    check("  the instruction", expected.place, told[SAM_INSTRUCTION]);
+    check("  the tag before", expected.tag, told[SAM_OLD_TAG]);
+    check("  the bits before", expected.value, told[SAM_OLD_BITS]);
+    check_told_marked(SAM_WHY_TOLD);
+}
+
+/* The number and what is told, and that nothing else is written. */
+static void check_why(const char *name, uint64_t cell, uint32_t number, struct wrote expected) {
+    static uint64_t table_before[SAM_TABLE_PLACES];
+    remember();
+    memcpy(table_before, table, sizeof table_before);
+    mark_told();
+    check(name, number, why_with(cell, SAM_REGISTERS, SAM_WHY_TOLD));
+    check_wrote(expected);
+    check_unchanged("  nothing written");
+    check("  nothing written", 0, (uint64_t)(memcmp(table_before, table, sizeof table_before) != 0));
+}
+
 /* A program, and the tenths read where it has halted. */
 static const struct { const char *source; uint64_t tenths; } dwells[] = {
     {"PUSHIMM 40 STOP", 40},
@@ -1002,6 +1038,8 @@ static void check_all_refused(void) {
     check("  11 before 10", 11, run(1000001));
     check_unchanged("  nothing changed");
     check_dwell("  dwell", 10, 0);
+    check_why("  why", 0, 10, NONE_WROTE);
+    check_why("  10 before 6", UINT64_MAX, 10, NONE_WROTE);
     check_not_saved("  save", SAM_REGISTERS, SAM_STATE_BYTES, 1, 10);
 }
 
@@ -1219,6 +1257,19 @@ static void check_steps_with(size_t len) {
     }
 }
 
+/* 31 before 10, and 10 before 6; the machine has four cells. */
+static void check_whys_with(size_t registers_len) {
+    for (uint64_t cell = 0; cell <= 4; cell += 4) {
+        for (size_t told_len = 0; told_len < MOST_TOLD; told_len++) {
+            if (registers_len == SAM_REGISTERS && told_len == SAM_WHY_TOLD) continue;
+            mark_told();
+            check("  31 or 10 of a why", told_len == SAM_WHY_TOLD ? 10 : 31, why_with(cell, registers_len, told_len));
+            if (told_len == SAM_WHY_TOLD) check_wrote(NONE_WROTE);
+            else check_told_marked(0);
+        }
+    }
+}
+
 /* 31 before 10. */
 static void check_saves_with(size_t registers_len) {
     for (size_t told_len = 0; told_len <= SAM_ASSEMBLE_TOLD + 1; told_len++) {
@@ -1248,7 +1299,7 @@ static void check_loads_with(size_t registers_len) {
     }
 }
 
-/* With nine registers, a told of one and nothing beyond its sizes each call would be done. */
+/* With nine registers, a told of its length and nothing beyond its sizes each call would be done. */
 static void test_lengths_of_machine_calls(void) {
     begin("PUSHIMMF 2.5 STOP", 4, 8);
     check("  step", 0, step());
@@ -1257,6 +1308,7 @@ static void test_lengths_of_machine_calls(void) {
     for (size_t len = 0; len <= SAM_REGISTERS + 1; len++) {
         printf("%zu registers\n", len);
         check_runs_with(len);
+        check_whys_with(len);
         if (len != SAM_REGISTERS) {
             check_resets_with(len);
             check_steps_with(len);
@@ -1355,6 +1407,8 @@ static void broken(const char *name, uint64_t *value, uint64_t wrong) {
     check(name, 10, forget(UINT64_MAX));
     check(name, 10, run(1));
     check_dwell(name, 10, 0);
+    check_why(name, 0, 10, NONE_WROTE);
+    check_why(name, UINT64_MAX, 10, NONE_WROTE);
     check_not_saved(name, SAM_REGISTERS, SAM_STATE_BYTES, 1, 10);
     check_not_saved("  31 before 10", SAM_REGISTERS, SAM_STATE_BYTES - 1, 1, 31);
     check(name, wrong, *value);
@@ -1386,16 +1440,20 @@ static void test_broken(void) {
     tags[3] = 5;
     check("  tag 5", 10, step());
     check_dwell("  tag 5", 10, 0);
+    check_why("  tag 5", 0, 10, NONE_WROTE);
     tags[3] = SAM_CH, bits[3] = 128;
     check("  CH above 127", 10, step());
     check_dwell("  CH above 127", 10, 0);
+    check_why("  CH above 127", 0, 10, NONE_WROTE);
     tags[3] = SAM_PA, bits[3] = 3;
     check("  PA above length", 10, step());
     check_dwell("  PA above length", 10, 0);
+    check_why("  PA above length", 0, 10, NONE_WROTE);
     tags[3] = SAM_INT, bits[3] = 0;
     history[1] |= 1;
     check("  top record", 10, step_back());
     check("  top record", 10, forget(1));
+    check_why("  top record", 0, 10, NONE_WROTE);
     check_dwell("  top record", 60, 0);
     history[1] &= ~UINT64_C(1);
     check("  all set right", 0, step_back());
@@ -1932,10 +1990,13 @@ static void make_records(size_t depth, const uint64_t *odd) {
     mark_unused();
 }
 
-/* 10, whatever k is. */
+/* 10, whatever k is, and whatever the cell of a why. */
 static void check_records_refused(void) {
     static const uint64_t numbers[] = {0, 1, RECORDS, RECORDS + 1, UINT64_MAX};
-    for (size_t i = 0; i < sizeof numbers / sizeof numbers[0]; i++) check_forget_refused(numbers[i], 10);
+    for (size_t i = 0; i < sizeof numbers / sizeof numbers[0]; i++) {
+        check_forget_refused(numbers[i], 10);
+        check_why("  why", numbers[i], 10, NONE_WROTE);
+    }
 }
 
 /* Each zero of the record's places is another. */
@@ -1947,6 +2008,7 @@ static void check_zeros(size_t depth) {
             odd[place] |= UINT64_C(1) << bit;
             make_records(depth, odd);
             check_forget_refused(1, 10);
+            check_why("  why", 2, 10, NONE_WROTE);
         }
     }
 }
@@ -2144,6 +2206,279 @@ static void test_complaint_after_forget(void) {
     registers[SAM_SP] = 1;
     check("  STOP", 0, step());
     check_dwell("  read", 0, 40);
+}
+
+/* ---- request l: why does this cell hold that? */
+
+/* Places of a table. */
+#define PUSHIMM(n) (AT(32, 1) | (n))
+#define SECONDS (AT(32, 2) | 0x40200000)
+#define DUP AT(32, 3)
+#define SWAP AT(32, 4)
+#define ADD AT(32, 5)
+#define SUB AT(32, 6)
+#define POPSP AT(32, 35)
+#define PUSHFBR AT(32, 36)
+#define ADDSP(n) (AT(32, 39) | (n))
+#define STOREIND AT(32, 41)
+#define STOREOFF_0 AT(32, 43)
+#define PUSHIMMPA(t) (AT(32, 49) | (t))
+#define WRITECH AT(32, 53)
+
+#define WROTE(steps_back, pc, place, tag, value) {1, steps_back, pc, place, tag, value}
+
+static void check_named(const char *name, uint64_t cell, uint64_t steps_back, uint64_t pc, uint64_t place, uint64_t tag,
+                        uint64_t value) {
+    struct wrote expected = WROTE(steps_back, pc, place, tag, value);
+    check_why(name, cell, 0, expected);
+}
+
+/* The complaint of document 01: whose is the dwell in cell 0? */
+static void test_complaint_asked(void) {
+    puts("the complaint: why does cell 0 hold that?");
+    begin("PUSHIMM 40 PUSHIMMF #40200000 STOREOFF 0", 16, 6);
+    check_why("  no step yet", 0, 0, NONE_WROTE);
+    check("  run", 50, run(3));
+    check_cell("  after the trial", 0, SAM_FLOAT, 0x40200000);
+    check_named("  the trial, and the 40 tenths before it", 0, 1, 2, STOREOFF_0, SAM_INT, 40);
+    check_named("  the seconds that it stored", 1, 2, 1, SECONDS, SAM_INT, 0);
+    check_why("  never written", 2, 0, NONE_WROTE);
+    check("  step-back", 0, step_back());
+    check_cell("  after the step-back", 0, SAM_INT, 40);
+    check_named("  the PUSHIMM, and what was before it", 0, 2, 0, PUSHIMM(40), SAM_INT, 0);
+    check_named("  the seconds", 1, 1, 1, SECONDS, SAM_INT, 0);
+    check("  the trial again", 0, step());
+    check("  forget all before it", 0, forget(2));
+    check_named("  the trial, and the 40 tenths before it", 0, 1, 2, STOREOFF_0, SAM_INT, 40);
+    check_why("  forgotten", 1, 0, NONE_WROTE);
+    check("  step-back", 0, step_back());
+    check_cell("  after the step-back", 0, SAM_INT, 40);
+    check_why("  no step is kept that wrote it", 0, 0, NONE_WROTE);
+}
+
+enum { ASKED = 3 };
+
+/* After so many of SEVEN_STEPS: what is told of cells 0, 1 and 2. */
+static const struct wrote seven_whys[8][ASKED] = {
+    {{0}},
+    {WROTE(1, 0, PUSHIMM(1), SAM_INT, 0)},
+    {WROTE(2, 0, PUSHIMM(1), SAM_INT, 0), WROTE(1, 1, DUP, SAM_INT, 0)},
+    {WROTE(1, 2, SWAP, SAM_INT, 1), WROTE(1, 2, SWAP, SAM_INT, 1)}, /* of two equal values */
+    {WROTE(1, 3, ADD, SAM_INT, 1), WROTE(2, 2, SWAP, SAM_INT, 1)},
+    {WROTE(2, 3, ADD, SAM_INT, 1), WROTE(3, 2, SWAP, SAM_INT, 1)}, /* a JUMP writes no cell */
+    {WROTE(3, 3, ADD, SAM_INT, 1), WROTE(1, 5, ADDSP(2), SAM_INT, 1), WROTE(1, 5, ADDSP(2), SAM_INT, 0)},
+    {WROTE(4, 3, ADD, SAM_INT, 1), WROTE(2, 5, ADDSP(2), SAM_INT, 1), WROTE(2, 5, ADDSP(2), SAM_INT, 0)},
+};
+
+/* The other cells were not written, the last and one above SP among them. */
+static void check_asked(const struct wrote *expected) {
+    for (size_t cell = 0; cell < ASKED; cell++) check_why("  why", cell, 0, expected[cell]);
+    check_why("  not written", ASKED, 0, NONE_WROTE);
+    check_why("  the last", n - 1, 0, NONE_WROTE);
+    check_why("  no cell", n, 6, NONE_WROTE);
+}
+
+static void test_why_of_steps(void) {
+    puts("why, after each of seven steps and each step-back");
+    begin(SEVEN_STEPS, 16, 14);
+    check_asked(seven_whys[0]);
+    for (size_t steps = 1; steps <= 7; steps++) {
+        check("  step", 0, step());
+        check_asked(seven_whys[steps]);
+    }
+    for (size_t steps = 7; steps-- > 0;) {
+        check("  step-back", 0, step_back());
+        check_asked(seven_whys[steps]);
+    }
+}
+
+/* The ADD is the fourth of the seven, the ADDSP the sixth. */
+static void test_why_of_forgotten(void) {
+    for (uint64_t k = 0; k <= 7; k++) {
+        printf("why, with %llu of seven steps forgotten\n", (unsigned long long)k);
+        begin(SEVEN_STEPS, 16, 20);
+        check("  run", 0, run(100));
+        check("  forget", 0, forget(k));
+        check_why("  ADD", 0, 0, k < 4 ? seven_whys[7][0] : NONE_WROTE);
+        check_why("  ADDSP", 1, 0, k < 6 ? seven_whys[7][1] : NONE_WROTE);
+        check_why("  ADDSP", 2, 0, k < 6 ? seven_whys[7][2] : NONE_WROTE);
+        check_why("  no cell", 16, 6, NONE_WROTE);
+    }
+}
+
+enum { FEW = 5 };
+
+/* A program, the steps it makes, and what is told of cells 0 to 4. */
+static const struct { const char *source; uint64_t steps; struct wrote told[FEW]; } asked_programs[] = {
+    {"PUSHIMM 7 PUSHIMM 8 ADDSP -1 ADDSP 3", 4, /* a fill over an 8 that was taken off */
+     {WROTE(4, 0, PUSHIMM(7), SAM_INT, 0), WROTE(1, 3, ADDSP(3), SAM_INT, 8), WROTE(1, 3, ADDSP(3), SAM_INT, 0),
+      WROTE(1, 3, ADDSP(3), SAM_INT, 0)}},
+    {"PUSHIMM 7 PUSHSP PUSHIMM 3 ADD POPSP", 5, /* and over the MA that POPSP took */
+     {WROTE(5, 0, PUSHIMM(7), SAM_INT, 0), WROTE(1, 4, POPSP, SAM_MA, 4), WROTE(1, 4, POPSP, SAM_INT, 3),
+      WROTE(1, 4, POPSP, SAM_INT, 0)}},
+    {"PUSHIMM 7 PUSHIMMCH 65 SWAP", 3, {WROTE(1, 2, SWAP, SAM_INT, 7), WROTE(1, 2, SWAP, SAM_CH, 65)}},
+    {"PUSHIMMPA 1 LINK PUSHFBR PUSHIMMF 2.5 STOREIND", 5,
+     {WROTE(5, 0, PUSHIMMPA(1), SAM_INT, 0), WROTE(1, 4, STOREIND, SAM_MA, 0), WROTE(3, 2, PUSHFBR, SAM_INT, 0),
+      WROTE(2, 3, SECONDS, SAM_INT, 0)}},
+    {"PUSHIMM 7 DUP STOREOFF 0", 3, /* with what it held */
+     {WROTE(1, 2, STOREOFF_0, SAM_INT, 7), WROTE(2, 1, DUP, SAM_INT, 0)}},
+    {"PUSHIMM 7 PUSHIMM 8 ADDSP -2", 3, /* at SP and above */
+     {WROTE(3, 0, PUSHIMM(7), SAM_INT, 0), WROTE(2, 1, PUSHIMM(8), SAM_INT, 0)}},
+    {"PUSHIMM 3 a: PUSHIMM 1 SUB DUP JUMPC a STOP", 14, /* again and again */
+     {WROTE(4, 2, SUB, SAM_INT, 1), WROTE(3, 3, DUP, SAM_INT, 1)}},
+    {"PUSHIMMPA 1 ADDSP -1 PUSHIMMCH 9", 3, {WROTE(1, 2, AT(32, 52) | 9, SAM_PA, 1)}},
+    {"PUSHIMMF #FFFFFFFF PUSHIMM 0 STOREOFF 0", 3,
+     {WROTE(1, 2, STOREOFF_0, SAM_FLOAT, UINT32_MAX), WROTE(2, 1, PUSHIMM(0), SAM_INT, 0)}},
+    {"JUMP 1 ADDSP 0 STOP", 3, {{0}}},
+};
+
+static void test_why_of_programs(void) {
+    for (size_t i = 0; i < sizeof asked_programs / sizeof asked_programs[0]; i++) {
+        printf("why: %s\n", asked_programs[i].source);
+        for (size_t places = 0; places <= 64; places += 64) {
+            begin(asked_programs[i].source, 8, places);
+            run(asked_programs[i].steps);
+            check("  steps", asked_programs[i].steps, told[0]);
+            for (size_t cell = 0; cell < FEW; cell++) {
+                check_why("  why", cell, 0, places == 0 ? NONE_WROTE : asked_programs[i].told[cell]);
+            }
+            check_why("  no cell", 8, 6, NONE_WROTE);
+        }
+    }
+}
+
+/* Not below N = 4, some with the number of a cell in their lowest bits. */
+static const uint64_t beyond_cells[] = {
+    4, 5, 256, 258, 1000, 1023, 1024, 1026, 65536, 65538, UINT64_C(1) << 32, (UINT64_C(1) << 32) + 1,
+    (UINT64_C(1) << 32) + 2, UINT64_C(1) << 63, (UINT64_C(1) << 63) + 2, UINT64_MAX - 1, UINT64_MAX,
+};
+
+static void check_beyond(uint32_t number) {
+    for (size_t i = 0; i < sizeof beyond_cells / sizeof beyond_cells[0]; i++) {
+        check_why("  no cell", beyond_cells[i], number, NONE_WROTE);
+    }
+}
+
+/* Five records that wrote cells 0 and 2, of which that at this depth is a WRITECH's that wrote 1 and 3. */
+static const uint64_t other_cells[RECORD_PLACES] = {
+    PLACE_OF_CELL(1, SAM_MA, UINT32_MAX), PLACE_OF_CELL(3, SAM_PA, 3), PLACE_OF_STEP(1, 0, 0, 2),
+};
+
+static void check_why_at_depth(size_t depth) {
+    uint64_t newest = depth == RECORDS - 1 ? 2 : 1;
+    check_named("  cell 0", 0, newest, 2, 0, SAM_FLOAT, 5);
+    check_named("  cell 1", 1, RECORDS - depth, 1, WRITECH, SAM_MA, UINT32_MAX);
+    check_named("  cell 2", 2, newest, 2, 0, SAM_CH, 127);
+    check_named("  cell 3", 3, RECORDS - depth, 1, WRITECH, SAM_PA, 3);
+}
+
+/* PCs up to the last of a full program, whose places are each unlike the others. */
+static void test_why_of_places(void) {
+    static const uint64_t pcs[] = {0, 1, 255, 256, 511, 512, 1000, 1023};
+    puts("why, in a program of 1,024 instructions");
+    begin("STOP", 4, 8);
+    for (uint64_t i = 0; i < SAM_TABLE_PLACES; i++) table[i] = PUSHIMM(UINT32_MAX - i);
+    length = SAM_TABLE_PLACES;
+    registers[SAM_U] = 2;
+    registers[SAM_KEPT] = 1;
+    for (size_t i = 0; i < sizeof pcs / sizeof pcs[0]; i++) {
+        history[0] = PLACE_OF_CELL(3, SAM_MA, 9);
+        history[1] = PLACE_OF_STEP(pcs[i], 0, 0, 1);
+        check_named("  why", 3, 1, pcs[i], PUSHIMM(UINT32_MAX - pcs[i]), SAM_MA, 9);
+    }
+}
+
+/* Neither HALT nor PC nor SP nor what is written is looked at, and 10 comes before 6. */
+static void test_order_of_why(void) {
+    for (size_t depth = 0; depth < RECORDS; depth++) {
+        printf("why, with %zu records below the one that wrote the cell\n", depth);
+        make_records(depth, other_cells);
+        memset(output, MARK, sizeof output);
+        check_why_at_depth(depth);
+        check_beyond(6);
+        registers[SAM_HALT] = 1;
+        registers[SAM_SP] = 3;
+        check_why_at_depth(depth);
+        registers[SAM_PC] = length;
+        check_why_at_depth(depth);
+        check_ends_marked();
+        registers[SAM_KEPT]--;
+        check_beyond(10);
+        registers[SAM_KEPT]++;
+        tags[3] = 5;
+        check_beyond(10);
+        tags[3] = SAM_INT;
+        length = SAM_TABLE_PLACES + 1;
+        check_beyond(10);
+        length = 3;
+        check_why_at_depth(depth);
+    }
+}
+
+static void test_why_of_many(void) {
+    puts("why: a cell written long ago");
+    begin("PUSHIMM 40 a: JUMP a", 2, SAM_HISTORY_LIMIT);
+    check("  run", 8, run(SAM_RUN_LIMIT));
+    check("  steps", SAM_HISTORY_LIMIT - 1, told[0]);
+    check_named("  the oldest", 0, SAM_HISTORY_LIMIT - 1, 0, PUSHIMM(40), SAM_INT, 0);
+    check_why("  not written", 1, 0, NONE_WROTE);
+    check_why("  no cell", 2, 6, NONE_WROTE);
+    history[0] |= 1;
+    check_why("  ill-formed", 0, 10, NONE_WROTE);
+    history[0] &= ~UINT64_C(1);
+    check("  forget", 0, forget(1));
+    check_why("  forgotten", 0, 0, NONE_WROTE);
+    puts("why: many cells written at once");
+    begin("ADDSP 999", SAM_CELL_LIMIT, SAM_CELL_LIMIT);
+    check("  step", 0, step());
+    for (uint64_t cell = 0; cell < 999; cell++) check_named("  filled", cell, 1, 0, ADDSP(999), SAM_INT, 0);
+    check_why("  not written", 999, 0, NONE_WROTE);
+    for (uint64_t cell = 1000; cell <= 1030; cell++) check_why("  no cell", cell, 6, NONE_WROTE);
+}
+
+/* What was done before a reset or a load is not kept; a refused load leaves zeros for registers. */
+static void test_why_of_new_origin(void) {
+    puts("why, after a reset and after a load");
+    begin("PUSHIMM 7 STOP", 4, 8);
+    check("  run", 0, run(100));
+    check_named("  pushed", 0, 2, 0, PUSHIMM(7), SAM_INT, 0);
+    check("  reset", 0, reset(4, 8));
+    check_why("  no step", 0, 0, NONE_WROTE);
+    check("  run", 0, run(100));
+    check("  load", 0, load_with(four_zeros, 24, SAM_TABLE_PLACES, SAM_REGISTERS, 4, 4, 8, output_len));
+    check_why("  no step", 0, 0, NONE_WROTE);
+    check("  run", 0, run(100));
+    check_named("  pushed", 0, 2, 0, PUSHIMM(7), SAM_INT, 0);
+    check("  a load that is refused", 41, load_with(four_zeros, 23, SAM_TABLE_PLACES, SAM_REGISTERS, 4, 4, 8,
+                                                    output_len));
+    check_why("  no registers", 0, 10, NONE_WROTE);
+}
+
+static void test_why_unwritten(void) {
+    static const uint64_t writing[RECORD_PLACES] = {FIRST_PLACE, SECOND_PLACE, PLACE_OF_STEP(1, 3, 3, 2)};
+    puts("why, by a WRITECH's record with nothing written");
+    for (size_t depth = 0; depth < RECORDS; depth++) {
+        bool is_newest = depth == RECORDS - 1;
+        make_records(depth, writing);
+        check_named("  why", 2, 1, is_newest ? 1 : 2, is_newest ? WRITECH : 0, SAM_CH, 127);
+    }
+}
+
+/* Of slices of another length; told and registers are in test_lengths_of_machine_calls. */
+static void test_lengths_of_why(void) {
+    puts("why, with a table, cells, tags, a history and an output of another length");
+    make_records(0, formed);
+    for (size_t i = 0; i < 6; i++) {
+        size_t places = SAM_TABLE_PLACES - (i == 0), cells = n - (i == 1), tag_count = n + (i == 2);
+        size_t history_len = h - (i == 3) + (i == 4), size = i == 5 ? SAM_OUTPUT_LIMIT + 1 : output_len;
+        mark_told();
+        remember();
+        check("  10", 10, sam_why(table, places, length, 0, registers, SAM_REGISTERS, bits, cells, tags, tag_count,
+                                  history, history_len, output, size, told, SAM_WHY_TOLD));
+        check_wrote(NONE_WROTE);
+        check_unchanged("  nothing written");
+    }
+    check_named("  all of the right length", 0, 1, 2, 0, SAM_FLOAT, 5);
 }
 
 /* ---- request j: a depth list with each delivered program */
@@ -2984,6 +3319,16 @@ int main(void) {
     test_long_session();
     test_forget_leaves_output();
     test_complaint_after_forget();
+    test_complaint_asked();
+    test_why_of_steps();
+    test_why_of_forgotten();
+    test_why_of_programs();
+    test_why_of_places();
+    test_order_of_why();
+    test_why_of_many();
+    test_why_of_new_origin();
+    test_why_unwritten();
+    test_lengths_of_why();
     test_depth_lists();
     test_cells_of_depths();
     test_broken_tables_of_depths();

@@ -1,4 +1,4 @@
-"""An interpreter of document 01 with requests a, b and d to k of document 02, written from the documents and their
+"""An interpreter of document 01 with requests a, b and d to l of document 02, written from the documents and their
 settled readings, to compare the proved one with."""
 
 from .console import cell_line, console
@@ -8,6 +8,7 @@ from .image import pack, unpack
 from .machine import Program, Registers, State, forget, reset, run, sound, step, step_back
 from .saved import load, save
 from .text import assemble, list_program
+from .why import why
 
 __all__ = [
     "NOT_REACHED",
@@ -30,4 +31,5 @@ __all__ = [
     "step",
     "step_back",
     "unpack",
+    "why",
 ]

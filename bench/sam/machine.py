@@ -169,7 +169,7 @@ def fields_sound(record, n, length):
 
 def well_formed_record(program, state, end):
     """The record that ends there, or nothing where it is ill-formed: of the top one a step-back asks it, of every used
-    one a forget."""
+    one a forget and a why."""
     record = record_ending(state.history, end)
     is_formed = record is not None and fields_sound(record, state.registers.n, program.length)
     return record if is_formed else None
@@ -186,6 +186,14 @@ def used_records(program, state):
         records.append(record)
         end = record.start
     return records
+
+
+def kept_records(program, state):
+    """The records of the kept steps, the newest first, or nothing where it is 10 by request i: "10 first, also when any
+    used record is ill-formed or the kept number differs from the records in use". Whether something is written is a
+    step-back's question alone."""
+    records = used_records(program, state) if sound(program, state) else None
+    return records if records is not None and len(records) == state.registers.kept else None
 
 
 def is_of_writing(record, program):
@@ -309,13 +317,9 @@ def step_back(program, state):
 
 
 def forget(program, state, k):
-    """Request i: "10 first, also when any used record is ill-formed or the kept number differs from the records in use;
-    then 14 when k is above the kept number". Whether something is written is a step-back's question alone."""
-    if not sound(program, state):
-        return 10
-    registers = state.registers
-    records = used_records(program, state)
-    if records is None or len(records) != registers.kept:
+    """Request i: "10 first [...] then 14 when k is above the kept number" """
+    records, registers = kept_records(program, state), state.registers
+    if records is None:
         return 10
     if k > registers.kept:
         return 14

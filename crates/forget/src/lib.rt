@@ -49,11 +49,15 @@ pub fn forget(
 ) -> Forgot
     ensures { λ a. ⌜ forgot a (now (bits .entry)) (now (tags .entry)) (now (history .exit)) (now (output .entry)) ≡ forget (program (now (table .entry)) length) k r (memory (now (bits .entry)) (now (tags .entry)) (now (history .entry)) (now (output .entry))) ⌝ }
 {
+    let sound = state::is_sound(table, length, r, bits, tags, history, output);
+    if !sound {
+        return Forgot::NotForgotten(ForgetRefusal::RecordsBroken);
+    }
     let used = r.used;
     let kept = r.kept;
     let stay = steps_left(kept, k);
-    let judged = records::judge(table, length, r, bits, tags, history, output, stay);
-    if !judged.sound {
+    let judged = records::judge(history, used, r.n, length, kept, stay);
+    if !judged.passes {
         return Forgot::NotForgotten(ForgetRefusal::RecordsBroken);
     }
     if kept < k {

@@ -8,7 +8,7 @@ use native.Mathlib.Omega.{arith}
 use lib.Dec.{ltb, leb}
 use lib.ListN.{length, take, drop, replicate, length-append, length-replicate}
 use lib.Seq.{drop-at, length-take-le}
-use borrow.Author.Tests.{le-leb, leb-true, leb-false}
+use borrow.Author.Tests.{le-leb, leb-true, leb-false, eq-eqb}
 use Rattle.rules.specs.Lists.{every}
 use Rattle.rules.specs.Sizes.{maxHistory}
 use Rattle.rules.specs.Table.{Program}
@@ -32,7 +32,7 @@ use Rattle.rules.proofs.Sound.{length-record}
 use Rattle.rules.proofs.Inverse.{inverse}
 use Rattle.rules.proofs.Room.{judged-others}
 use Rattle.rules.proofs.Forgetting.{forget-too-many, forget-done}
-use Rattle.rules.proofs.Records.{records-pass, AllFormed, fewer-than-places, places-split, more-places, fewer-places, CutTo, cut-places}
+use Rattle.rules.proofs.Records.{AllFormed, fewer-than-places, places-split, more-places, fewer-places, CutTo, cut-places}
 use Rattle.promises.specs.Unbounded.{Unbounded, moves, decided}
 use Rattle.promises.specs.Series.{State, plain}
 use Rattle.promises.proofs.Demand3Good.{Good, committed, back-empty, sound-beside}
@@ -174,7 +174,7 @@ module _ (p : Program) (h : ℕ) (short : h ≤ maxHistory) where
     cuts = cut-places (x .registers .n) (p .count) ls formed (replicate (h - length (placesOf ls)) 0)
 
     tests : every (recordTests p (held h ls x .registers) (held h ls x .memory)) ≡ true
-    tests = records-pass p (held h ls x .registers) (held h ls x .memory) (good .sound) (cuts .formed) (sym (cuts .many))
+    tests = simp (good .sound, cuts .formed, eq-eqb (length ls) (length found) (sym (cuts .many)))
 
     -- the oldest places go, and the others move down
     module _ (i : ℕ) where

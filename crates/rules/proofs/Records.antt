@@ -7,14 +7,11 @@ use native.Mathlib.Omega.{arith}
 use lib.Dec.{eqb}
 use lib.ListN.{length, getD, take, drop, replicate, length-append, length-replicate, replicate-append-replicate}
 use lib.Seq.{take-at, drop-at, getD-at, take-suc, take-add}
-use borrow.Author.Tests.{leb-true, ltb-true, eqb-true, eq-eqb}
-use Rattle.rules.specs.Lists.{every, part, splice}
+use borrow.Author.Tests.{leb-true, ltb-true, eqb-true}
+use Rattle.rules.specs.Lists.{part, splice}
 use Rattle.rules.specs.Places.{cellAddress, stepPc, stepCount, stepPlaces, mark}
-use Rattle.rules.specs.Table.{Program}
-use Rattle.rules.specs.State.{Memory, sound}
-use Rattle.rules.specs.Records.{HistoryRecord, recordAt, cutDown, recordsInUse, cellTests, formedCell, formedCells, stepTests, formedStep, formedRecord, formedRecords, recordTests, placesTaken, wholeRecord, placesOf}
+use Rattle.rules.specs.Records.{HistoryRecord, recordAt, cutDown, cellTests, formedCell, formedCells, stepTests, formedStep, formedRecord, formedRecords, placesTaken, wholeRecord, placesOf}
 use Rattle.rules.specs.Forget.{movedDown}
-use Rattle.rules.specs.declared.Registers.{Registers}
 use Rattle.rules.proofs.Tests.{and-left, and-right, every-at}
 use Rattle.rules.proofs.Splice.{splice-mid}
 use Rattle.rules.proofs.Formed.{WellFormed, Formed}
@@ -47,12 +44,6 @@ module _ (n count : ℕ) (w : HistoryRecord) (formed : formedRecord n count w �
   pub addresses-below : (k : ℕ) → k < length (w .cells) → cellAddress (getD (w .cells) k 0) < n
   addresses-below =
       formed-below n count 0 (w .cells) (and-right (formedStep n count (w .below) (w .place)) (formedCells n count 0 (w .cells)) formed)
-
--- ---- what a forget and a why ask first
-
-pub records-pass : (p : Program) (r : Registers) (m : Memory) → sound p r m ≡ true → formedRecords (r .n) (p .count) (recordsInUse r m) ≡ true
-    → r .kept ≡ length (recordsInUse r m) → every (recordTests p r m) ≡ true
-records-pass p r m s f n = simp (s, f, eq-eqb (r .kept) (length (recordsInUse r m)) n)
 
 -- ---- records, each of them well formed
 

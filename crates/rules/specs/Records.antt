@@ -79,13 +79,13 @@ abbrev pub formedRecords : (n count : ℕ) → List HistoryRecord → Bool
 formedRecords n count [] = true
 formedRecords n count (w ∷ ws) = formedRecord n count w && formedRecords n count ws
 
--- not "10 first, also when any used record is ill-formed or the kept number differs from the records in use" (02 i); "10 as in i)" (02 l)
+-- not "any used record is ill-formed or the kept number differs from the records in use" (02 i)
+abbrev pub keptTests : (n count kept : ℕ) → List HistoryRecord → List Bool
+keptTests n count kept ws = formedRecords n count ws ∷ eqb kept (length ws) ∷ []
+
+-- not "10 first, also when .." (02 i); "10 as in i)" (02 l)
 abbrev pub recordTests : Program → Registers → Memory → List Bool
-recordTests p r m =
-    sound p r m
-    ∷ formedRecords (r .n) (p .count) (recordsInUse r m)
-    ∷ eqb (r .kept) (length (recordsInUse r m))
-    ∷ []
+recordTests p r m = sound p r m ∷ keptTests (r .n) (p .count) (r .kept) (recordsInUse r m)
 
 -- ---- the places that records take
 

@@ -7,7 +7,7 @@ use native.Mathlib.Omega.{arith}
 use lib.ListN.{length}
 use Rattle.rules.specs.Lists.{every}
 use Rattle.rules.specs.Table.{Program}
-use Rattle.rules.specs.State.{Memory}
+use Rattle.rules.specs.State.{Memory, sound}
 use Rattle.rules.specs.Records.{HistoryRecord, recordsInUse, formedRecord, formedRecords, recordTests}
 use Rattle.rules.specs.Why.{newest, why}
 use Rattle.rules.specs.declared.Registers.{Registers}
@@ -17,9 +17,10 @@ use Rattle.rules.specs.declared.WhyRefusal.the-variants.{NoSuchCell, HistoryBro
 use Rattle.rules.proofs.Tests.{and-left, and-right}
 use Rattle.rules.proofs.Records.{cells-within, old-pc-below}
 use Rattle.rules.proofs.Asking.{why-broken, why-outside, why-newest}
+use Rattle.state.proofs.Parts.{held}
 use Rattle.records.specs.Judgements.{judgement}
 use Rattle.records.specs.declared.Judgement.{Judgement}
-use Rattle.records.proofs.Judgements.{judged-sound, judged-formed, program-within}
+use Rattle.records.proofs.Judgements.{not-sound, judged, judged-formed}
 use Rattle.why.specs.Readable.{AllReadable}
 
 -- ---- well-formed records can be read, in a table that has the program's places
@@ -34,13 +35,17 @@ formed-readable n count size low (w ∷ ws) h =
 
 -- ---- the answers: no places are asked for, so that none of the newest records stay
 
-module _ (p : Program) (r : Registers) (m : Memory) (w : Judgement) (e : w ≡ judgement p 0 r m) where
-  pub why-refused : (cell : ℕ) → w .sound ≡ false → why p cell r m ≡ NotNamed HistoryBroken
-  why-refused cell h = why-broken p cell r m (sym (judged-sound p 0 r m w e) ∙ h)
+pub why-unsound : (p : Program) (r : Registers) (m : Memory) (cell : ℕ) → sound p r m ≡ false → why p cell r m ≡ NotNamed HistoryBroken
+why-unsound p r m cell h = why-broken p cell r m (not-sound p r m h)
 
-  module _ (passes : w .sound ≡ true) where
+module _ (p : Program) (r : Registers) (m : Memory) (s : sound p r m ≡ true) (w : Judgement)
+    (e : w ≡ judgement (r .n) (p .count) (r .kept) 0 (recordsInUse r m)) where
+  pub why-refused : (cell : ℕ) → w .passes ≡ false → why p cell r m ≡ NotNamed HistoryBroken
+  why-refused cell h = why-broken p cell r m (sym (judged p r m s 0 w e) ∙ h)
+
+  module _ (passes : w .passes ≡ true) where
     all : every (recordTests p r m) ≡ true
-    all = sym (judged-sound p 0 r m w e) ∙ passes
+    all = sym (judged p r m s 0 w e) ∙ passes
 
     pub why-above : (cell : ℕ) → r .n ≤ cell → why p cell r m ≡ NotNamed NoSuchCell
     why-above cell h = why-outside p cell r m all h
@@ -50,5 +55,4 @@ module _ (p : Program) (r : Registers) (m : Memory) (w : Judgement) (e : w ≡ j
 
     pub all-readable : AllReadable (length (p .places)) (recordsInUse r m)
     all-readable =
-        formed-readable (r .n) (p .count) (length (p .places)) (program-within p 0 r m w e passes) (recordsInUse r m)
-        (judged-formed p 0 r m w e passes)
+        formed-readable (r .n) (p .count) (length (p .places)) (held p r m s .table) (recordsInUse r m) (judged-formed p r m s 0 w e passes)

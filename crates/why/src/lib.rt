@@ -83,8 +83,12 @@ pub fn why(
 ) -> Why
     ensures { λ a. ⌜ a ≡ why (program (now (table .entry)) length) cell r (memory (now (bits .entry)) (now (tags .entry)) (now (history .entry)) (now (output .entry))) ⌝ }
 {
-    let judged = records::judge(table, length, r, bits, tags, history, output, 0);
-    if !judged.sound {
+    let sound = state::is_sound(table, length, r, bits, tags, history, output);
+    if !sound {
+        return Why::NotNamed(WhyRefusal::HistoryBroken);
+    }
+    let judged = records::judge(history, r.used, r.n, length, r.kept, 0);
+    if !judged.passes {
         return Why::NotNamed(WhyRefusal::HistoryBroken);
     }
     if r.n <= cell {

@@ -1,11 +1,13 @@
--- `why::why` meets its contract: what was judged decides, then N, and then the records in use. Assumes nothing.
-use mathlib.Core.Path.{sym}
+-- `why::why` meets its contract: a broken state is refused, then what was judged of the records decides, then N, and then the records in use. Assumes nothing.
+use mathlib.Core.Path.{_≡_, sym, _∙_}
+use mathlib.Core.Bool.{true, false}
+use native.Mathlib.Omega.{arith}
 use borrow.Author.Needs.{needs}
 use borrow.Author.Tests.{not-true, not-false}
 use Rattle.rules.specs.Table.{Program, program}
-use Rattle.rules.specs.State.{Memory, memory}
-use Rattle.records.proofs.Judgements.{used-within}
-use Rattle.why.proofs.Answers.{why-refused, why-above, why-told, all-readable}
+use Rattle.rules.specs.State.{Memory, memory, sound}
+use Rattle.state.proofs.Parts.{held}
+use Rattle.why.proofs.Answers.{why-unsound, why-refused, why-above, why-told, all-readable}
 use Rattle.why.proofs.why.Statement.{statement}
 use Rattle.why.proofs.why.Tie as tie
 
@@ -16,50 +18,75 @@ handed s = program (s .args .table .now) (s .args .length)
 abbrev lent : tie.Start → Memory
 lent s = memory (s .args .bits .now) (s .args .tags .now) (s .args .history .now) (s .args .output .now)
 
--- what was judged, and behind the first test the state and the records pass
-abbrev start : tie.After-judge → tie.Start
-start c = c .before .before .before .before .before .before
+-- behind the first test the state is sound
+is-not : (c : tie.Then1) → let s = c .before .before .before .before .before .before .before in sound (handed s) (s .args .r) (lent s) ≡ false
+is-not c = sym (c .before .is-sound .ensures) ∙ not-true _ (c .if1 .taken)
 
-abbrev judged : tie.Else1 → tie.After-judge
+abbrev start : tie.Else1 → tie.Start
+start c = c .before .before .before .before .before .before .before
+
+is-so : (c : tie.Else1) → sound (handed (start c)) (start c .args .r) (lent (start c)) ≡ true
+is-so c = sym (c .before .is-sound .ensures) ∙ not-false _ (c .if1 .left)
+
+-- what was judged of the records, and behind the second test they pass
+abbrev at-sound : tie.After-judge → tie.Else1
+at-sound c = c .before
+
+abbrev judged : tie.Else2 → tie.After-judge
 judged c = c .before .before
 
 -- ---- the needs
 
-judge-requires : tie.Need-judge-requires
-judge-requires c κs = search needs
+is-sound-requires : tie.Need-is-sound-requires
+is-sound-requires c κs = search needs
 
 returns : tie.Need-returns
 returns c =
-    let at-judge = c .before .before in
-    let s = start at-judge in
-    let found = at-judge .judge in
-    sym (why-refused (handed s) (s .args .r) (lent s) (found .result) (found .ensures) (s .args .cell) (not-true _ (c .if1 .taken)))
+    let s = c .before .before .before .before .before .before .before in
+    sym (why-unsound (handed s) (s .args .r) (lent s) (s .args .cell) (is-not c))
+
+judge-requires : tie.Need-judge-requires
+judge-requires c κs = search needs
 
 returns-2 : tie.Need-returns-2
 returns-2 c =
-    let at-passed = c .before .before in
-    let s = start (judged at-passed) in
-    let found = judged at-passed .judge in
+    let at-judge = c .before .before in
+    let s = start (at-sound at-judge) in
+    let found = at-judge .judge in
     sym
-    (why-above (handed s) (s .args .r) (lent s) (found .result) (found .ensures) (not-false _ (at-passed .if1 .left)) (s .args .cell) (c .if2 .taken))
+    (why-refused (handed s) (s .args .r) (lent s) (is-so (at-sound at-judge)) (found .result) (found .ensures) (s .args .cell)
+    (not-true _ (c .if2 .taken)))
+
+returns-3 : tie.Need-returns-3
+returns-3 c =
+    let at-passed = c .before .before in
+    let at-judge = judged at-passed in
+    let s = start (at-sound at-judge) in
+    let found = at-judge .judge in
+    sym
+    (why-above (handed s) (s .args .r) (lent s) (is-so (at-sound at-judge)) (found .result) (found .ensures) (not-false _ (at-passed .if2 .left))
+    (s .args .cell) (c .if3 .taken))
 
 newest-requires : tie.Need-newest-requires
 newest-requires c κs =
     let at-passed = c .before .before in
-    let s = start (judged at-passed) in
-    let found = judged at-passed .judge in (
-      used-within (handed s) 0 (s .args .r) (lent s) (found .result) (found .ensures) (not-false _ (at-passed .if1 .left)),
-      all-readable (handed s) (s .args .r) (lent s) (found .result) (found .ensures) (not-false _ (at-passed .if1 .left)),
+    let at-judge = judged at-passed in
+    let s = start (at-sound at-judge) in
+    let found = at-judge .judge in
+    let kept = held (handed s) (s .args .r) (lent s) (is-so (at-sound at-judge)) in (
+      omega (arith, kept .places, kept .used),
+      all-readable (handed s) (s .args .r) (lent s) (is-so (at-sound at-judge)) (found .result) (found .ensures) (not-false _ (at-passed .if2 .left)),
     )
 
-returns-3 : tie.Need-returns-3
-returns-3 c =
+returns-4 : tie.Need-returns-4
+returns-4 c =
     let at-cell = c .before in
     let at-passed = at-cell .before .before in
-    let s = start (judged at-passed) in
-    let found = judged at-passed .judge in
-    why-told (handed s) (s .args .r) (lent s) (found .result) (found .ensures) (not-false _ (at-passed .if1 .left)) (s .args .cell) (at-cell .if2 .left)
-    (c .newest .result) (c .newest .ensures)
+    let at-judge = judged at-passed in
+    let s = start (at-sound at-judge) in
+    let found = at-judge .judge in
+    why-told (handed s) (s .args .r) (lent s) (is-so (at-sound at-judge)) (found .result) (found .ensures) (not-false _ (at-passed .if2 .left))
+    (s .args .cell) (at-cell .if3 .left) (c .newest .result) (c .newest .ensures)
 
 pub why-spec : {M : Type 1} → statement M
-why-spec = tie.close (tie.spec judge-requires returns returns-2 newest-requires returns-3)
+why-spec = tie.close (tie.spec is-sound-requires returns judge-requires returns-2 returns-3 newest-requires returns-4)
