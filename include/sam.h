@@ -177,9 +177,9 @@ uint32_t sam_dwell(const uint64_t *table, size_t places, uint64_t length, const 
 
 /* Tells why a cell holds what it holds: names the newest of the steps that can be taken back which wrote the cell, and
  * writes nothing but told. A step that wrote what the cell held already wrote it. Any cell below N may be asked, at SP
- * and above too. 10 as for a forget, then 6 where the cell is not below N. told[6]: found, steps back, PC, the table's
- * place at that PC, old tag, old bits. All six are 0 where no step that can be taken back wrote the cell, which is no
- * refusal, and where it is refused. */
+ * and above too. 10 as for a forget, then 6 where the cell is not below N. told[6]: found, steps back, PC, the place at
+ * that PC in the table that is handed in, old tag, old bits. All six are 0 where no step that can be taken back wrote
+ * the cell, which is no refusal, and where it is refused; only `found` tells a named step from none. */
 uint32_t sam_why(const uint64_t *table, size_t places, uint64_t length, uint64_t cell, const uint64_t *registers,
                  size_t registers_len, const uint32_t *bits, size_t n, const uint8_t *tags, size_t tags_len,
                  const uint64_t *history, size_t h, const uint8_t *output, size_t output_len, uint64_t *told,

@@ -10,7 +10,7 @@ use lib.Seq.{getD-take, getD-drop, getD-at, take-at}
 use borrow.Author.Tests.{ltb-true, ltb-false, eqb-true, eqb-false, ne-eqb}
 use Rattle.rules.specs.Lists.{part, splice}
 use Rattle.rules.specs.Sizes.{maxCells}
-use Rattle.rules.specs.Places.{cellAddress, cellPlace}
+use Rattle.rules.specs.Places.{cellPlace}
 use Rattle.rules.specs.Cells.{Cells, cellAt}
 use Rattle.rules.specs.Commit.{block, cellPlaces, cellsKept, cellsAfter}
 use Rattle.rules.specs.Why.{toldBy}
@@ -42,46 +42,45 @@ last-place xs ys x y e = (
 
 -- ---- the places of cells side by side, the first of them at address a
 
-module _ (count cell : ℕ) (told : ℕ → Why) (older : Why) where
+module _ (count cell : ℕ) (told : ℕ → Why) where
   -- the place at address a is that of the cell, or it is not
-  at-address : (a t b : ℕ) (next : Why) → a < maxCells → Keepable count t b → (test : Bool) → eqb a cell ≡ test
-      → cond (eqb (cellAddress (cellPlace a t b)) cell) (told (cellPlace a t b)) next ≡ cond test (told (cellPlace a t b)) next
-  at-address a t b next low k test e =
-      ap (λ (i : Bool). cond i (told (cellPlace a t b)) next)
+  at-address : (a t b : ℕ) (ts bs : List ℕ) (older : Why) → a < maxCells → Keepable count t b → (test : Bool) → eqb a cell ≡ test
+      → toldBy cell (cellPlaces a (t ∷ ts) (b ∷ bs)) told older ≡ toldBy cell (cellPlaces (suc a) ts bs) told (cond test (told (cellPlace a t b)) older)
+  at-address a t b ts bs older low k test e =
+      ap (λ (i : Bool). toldBy cell (cellPlaces (suc a) ts bs) told (cond i (told (cellPlace a t b)) older))
       (ap (λ (n : ℕ). eqb n cell) (cellAddress-of a t b (omega arith) (k .tag) (k .bits)) ∙ e)
 
-  pub told-inside : (a : ℕ) (ts bs : List ℕ) → length ts ≡ length bs → a + length bs ≤ maxCells → Each (Keepable count) ts bs → a ≤ cell → cell < a + length bs
-      → toldBy cell (cellPlaces a ts bs) told older ≡ told (cellPlace cell (getD ts (cell - a) 0) (getD bs (cell - a) 0))
-  told-inside a [] [] even few k low high = absurd (let z : ⊥ = omega arith in z)
-  told-inside a [] (b ∷ bs) even few k low high = absurd (let z : ⊥ = omega (arith, even) in z)
-  told-inside a (t ∷ ts) [] even few k low high = absurd (let z : ⊥ = omega (arith, even) in z)
-  told-inside a (t ∷ ts) (b ∷ bs) even few k low high =
-      let next : Why = toldBy cell (cellPlaces (suc a) ts bs) told older in
+  pub told-outside : (a : ℕ) (ts bs : List ℕ) (older : Why) → length ts ≡ length bs → a + length bs ≤ maxCells → Each (Keepable count) ts bs
+      → (a ≤ cell → cell < a + length bs → ⊥) → toldBy cell (cellPlaces a ts bs) told older ≡ older
+  told-outside a [] bs older even few k out = refl
+  told-outside a (t ∷ ts) [] older even few k out = refl
+  told-outside a (t ∷ ts) (b ∷ bs) older even few k out =
+      let other : a ≡ cell → ⊥ = λ e. out (omega (arith, e)) (omega (arith, e)) in
+      at-address a t b ts bs older (omega arith) (k 0) false (ne-eqb a cell other)
+      ∙ told-outside (suc a) ts bs older (omega (arith, even)) (omega arith) (λ i. k (suc i)) (λ low high. out (omega (arith, low)) (omega (arith, high)))
+
+  pub told-inside : (a : ℕ) (ts bs : List ℕ) (older : Why) → length ts ≡ length bs → a + length bs ≤ maxCells → Each (Keepable count) ts bs → a ≤ cell
+      → cell < a + length bs → toldBy cell (cellPlaces a ts bs) told older ≡ told (cellPlace cell (getD ts (cell - a) 0) (getD bs (cell - a) 0))
+  told-inside a [] [] older even few k low high = absurd (let z : ⊥ = omega arith in z)
+  told-inside a [] (b ∷ bs) older even few k low high = absurd (let z : ⊥ = omega (arith, even) in z)
+  told-inside a (t ∷ ts) [] older even few k low high = absurd (let z : ⊥ = omega (arith, even) in z)
+  told-inside a (t ∷ ts) (b ∷ bs) older even few k low high =
       let small : a < maxCells = omega arith in
       by-test (eqb a cell)
       (λ e.
       let here : a ≡ cell = eqb-true a cell e in
       let first : cell - a ≡ 0 = omega arith in
-      at-address a t b next small (k 0) true e
+      at-address a t b ts bs older small (k 0) true e
+      ∙ told-outside (suc a) ts bs (told (cellPlace a t b)) (omega (arith, even)) (omega arith) (λ i. k (suc i)) (λ l h. omega (arith, l, here))
       ∙ ap (λ (n : ℕ). told (cellPlace n t b)) here
       ∙ ap (λ (n : ℕ). told (cellPlace cell (getD (t ∷ ts) n 0) (getD (b ∷ bs) n 0))) (sym first))
       (λ e.
       let there : a ≡ cell → ⊥ = eqb-false a cell e in
       let above : a < cell = omega arith in
       let more : cell - a ≡ suc (cell - suc a) = omega arith in
-      at-address a t b next small (k 0) false e
-      ∙ told-inside (suc a) ts bs (omega (arith, even)) (omega arith) (λ i. k (suc i)) above (omega arith)
+      at-address a t b ts bs older small (k 0) false e
+      ∙ told-inside (suc a) ts bs older (omega (arith, even)) (omega arith) (λ i. k (suc i)) above (omega arith)
       ∙ ap (λ (n : ℕ). told (cellPlace cell (getD (t ∷ ts) n 0) (getD (b ∷ bs) n 0))) (sym more))
-
-  pub told-outside : (a : ℕ) (ts bs : List ℕ) → length ts ≡ length bs → a + length bs ≤ maxCells → Each (Keepable count) ts bs
-      → (a ≤ cell → cell < a + length bs → ⊥) → toldBy cell (cellPlaces a ts bs) told older ≡ older
-  told-outside a [] bs even few k out = refl
-  told-outside a (t ∷ ts) [] even few k out = refl
-  told-outside a (t ∷ ts) (b ∷ bs) even few k out =
-      let next : Why = toldBy cell (cellPlaces (suc a) ts bs) told older in
-      let other : a ≡ cell → ⊥ = λ e. out (omega (arith, e)) (omega (arith, e)) in
-      at-address a t b next (omega arith) (k 0) false (ne-eqb a cell other)
-      ∙ told-outside (suc a) ts bs (omega (arith, even)) (omega arith) (λ i. k (suc i)) (λ low high. out (omega (arith, low)) (omega (arith, high)))
 
 -- ---- an effect on N cells
 
@@ -98,7 +97,7 @@ module _ (count cell n : ℕ) (c : Cells) (e : Effect) (few : n ≤ maxCells) (b
     pub kept-inside : e .at ≤ cell → cell < e .at + e .count
         → toldBy cell (cellsKept c e) told older ≡ told (cellPlace cell (getD (c .tags) cell 0) (getD (c .bits) cell 0))
     kept-inside low high =
-        told-inside count cell told older (e .at) (part (e .at) (e .count) (c .tags)) (part (e .at) (e .count) (c .bits)) even (omega (arith, long-bits, fits, few))
+        told-inside count cell told (e .at) (part (e .at) (e .count) (c .tags)) (part (e .at) (e .count) (c .bits)) older even (omega (arith, long-bits, fits, few))
         keepable low (omega (arith, long-bits, high))
         ∙ ap₂ (λ (t b : ℕ). told (cellPlace cell t b)) (in-part (c .tags)) (in-part (c .bits))
       where
@@ -110,7 +109,7 @@ module _ (count cell n : ℕ) (c : Cells) (e : Effect) (few : n ≤ maxCells) (b
 
     pub kept-outside : (e .at ≤ cell → cell < e .at + e .count → ⊥) → toldBy cell (cellsKept c e) told older ≡ older
     kept-outside out =
-        told-outside count cell told older (e .at) (part (e .at) (e .count) (c .tags)) (part (e .at) (e .count) (c .bits)) even
+        told-outside count cell told (e .at) (part (e .at) (e .count) (c .tags)) (part (e .at) (e .count) (c .bits)) older even
         (omega (arith, long-bits, fits, few)) keepable (λ low high. out low (omega (arith, long-bits, high)))
 
   -- a cell that it does not write stays

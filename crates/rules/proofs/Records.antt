@@ -27,6 +27,15 @@ formed-below n count low (q ∷ qs) h (suc k) kl =
     formed-below n count (cellAddress q + 1) qs (and-right (formedCell n count low q) (formedCells n count (cellAddress q + 1) qs) h) k
     (omega arith)
 
+-- and none of them has a step place's mark
+formed-unmarked : (n count low : ℕ) (l : List ℕ) → formedCells n count low l ≡ true → (k : ℕ) → k < length l → mark (getD l k 0) ≡ 0
+formed-unmarked n count low [] h k kl = absurd (let z : ⊥ = omega arith in z)
+formed-unmarked n count low (q ∷ qs) h zero kl =
+    eqb-true _ _ (every-at (cellTests n count low q) 0 (and-left (formedCell n count low q) (formedCells n count (cellAddress q + 1) qs) h))
+formed-unmarked n count low (q ∷ qs) h (suc k) kl =
+    formed-unmarked n count (cellAddress q + 1) qs (and-right (formedCell n count low q) (formedCells n count (cellAddress q + 1) qs) h) k
+    (omega arith)
+
 -- a step place's cells lie within the places below it
 pub count-within : (n count below q : ℕ) → formedStep n count below q ≡ true → stepCount q ≤ below
 count-within n count below q h = leb-true _ _ (every-at (stepTests n count below q) 5 h)
@@ -35,6 +44,15 @@ module _ (n count : ℕ) (w : HistoryRecord) (formed : formedRecord n count w �
   step-formed : formedStep n count (w .below) (w .place) ≡ true
   step-formed = and-left (formedStep n count (w .below) (w .place)) (formedCells n count 0 (w .cells)) formed
 
+  cells-formed : formedCells n count 0 (w .cells) ≡ true
+  cells-formed = and-right (formedStep n count (w .below) (w .place)) (formedCells n count 0 (w .cells)) formed
+
+  pub step-marked : mark (w .place) ≡ 1
+  step-marked = eqb-true _ _ (every-at (stepTests n count (w .below) (w .place)) 0 step-formed)
+
+  pub cells-unmarked : (k : ℕ) → k < length (w .cells) → mark (getD (w .cells) k 0) ≡ 0
+  cells-unmarked = formed-unmarked n count 0 (w .cells) cells-formed
+
   pub old-pc-below : stepPc (w .place) < count
   old-pc-below = ltb-true _ _ (every-at (stepTests n count (w .below) (w .place)) 2 step-formed)
 
@@ -42,8 +60,7 @@ module _ (n count : ℕ) (w : HistoryRecord) (formed : formedRecord n count w �
   cells-within = count-within n count (w .below) (w .place) step-formed
 
   pub addresses-below : (k : ℕ) → k < length (w .cells) → cellAddress (getD (w .cells) k 0) < n
-  addresses-below =
-      formed-below n count 0 (w .cells) (and-right (formedStep n count (w .below) (w .place)) (formedCells n count 0 (w .cells)) formed)
+  addresses-below = formed-below n count 0 (w .cells) cells-formed
 
 -- ---- records, each of them well formed
 

@@ -26,10 +26,10 @@ namedStep table back step old =
       before = record { bits = cellBits old; tag = cellTag old };
     }
 
--- what is told by a place of that cell among a record's cell places, or by the older records where there is none
+-- what is told by the place of that cell among a record's cell places, of which each has another address; by the older records where there is none
 abbrev pub toldBy : (cell : ℕ) → List ℕ → (told : ℕ → Why) → (older : Why) → Why
 toldBy cell [] told older = older
-toldBy cell (q ∷ qs) told older = cond (eqb (cellAddress q) cell) (told q) (toldBy cell qs told older)
+toldBy cell (q ∷ qs) told older = toldBy cell qs told (cond (eqb (cellAddress q) cell) (told q) older)
 
 -- "names the newest kept step which wrote it": of the records from the newest on, the first of which is that many steps back. "Otherwise it says that no kept step
 -- wrote the cell."

@@ -15,7 +15,7 @@ use Rattle.rules.specs.declared.Why.{Why}
 use Rattle.rules.specs.declared.Why.the-variants.{NotNamed}
 use Rattle.rules.specs.declared.WhyRefusal.the-variants.{NoSuchCell, HistoryBroken}
 use Rattle.rules.proofs.Tests.{and-left, and-right}
-use Rattle.rules.proofs.Records.{cells-within, old-pc-below}
+use Rattle.rules.proofs.Records.{step-marked, cells-unmarked, cells-within, old-pc-below}
 use Rattle.rules.proofs.Asking.{why-broken, why-outside, why-newest}
 use Rattle.state.proofs.Parts.{held}
 use Rattle.records.specs.Judgements.{judgement}
@@ -29,7 +29,12 @@ formed-readable : (n count size : ℕ) → count ≤ size → (ws : List History
 formed-readable n count size low [] h = tt
 formed-readable n count size low (w ∷ ws) h =
     let first : formedRecord n count w ≡ true = and-left (formedRecord n count w) (formedRecords n count ws) h in (
-      record { cells = cells-within n count w first; pc = omega (arith, old-pc-below n count w first) },
+      record {
+        marked = step-marked n count w first;
+        unmarked = cells-unmarked n count w first;
+        within = cells-within n count w first;
+        pc = omega (arith, old-pc-below n count w first);
+      },
       formed-readable n count size low ws (and-right (formedRecord n count w) (formedRecords n count ws) h),
     )
 

@@ -1,4 +1,3 @@
--- Laws of a look through the records, for the proofs of its functions.
-pub mod Cells
+-- Laws of a look down the places, for the proofs of its functions.
 pub mod Looking
 pub mod Answers

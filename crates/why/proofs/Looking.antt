@@ -1,108 +1,180 @@
--- The look through the records from the newest down: what its loop carries, one record more and none left. Assumes nothing.
+-- The look down the places: what its loop carries, one place more and none left. Assumes nothing.
 use Prim.Native.Nat.{ℕ, suc, _+_, _-_, _≤_, _<_}
 use mathlib.Core.Path.{_≡_, refl, sym, ap, _∙_, subst}
-use mathlib.Core.List.{List, _∷_}
+use mathlib.Core.Bool.{Bool, true, false, cond}
+use mathlib.Core.List.{List, [], _∷_, _++_}
 use native.Mathlib.Omega.{arith}
-use lib.ListN.{length, getD, take, drop, length-take, length-drop}
-use lib.Seq.{getD-take, getD-drop}
+use lib.ListN.{length, getD, drop, length-drop}
+use lib.Dec.{ltb, eqb}
+use lib.Seq.{take-suc, getD-drop, getD-take}
+use borrow.Author.Tests.{ltb-true, ltb-false, eq-eqb, ne-eqb}
 use Rattle.rules.specs.Lists.{part}
-use Rattle.rules.specs.Places.{stepPc, stepCount}
+use Rattle.rules.specs.Places.{mark, cellAddress, stepPc, stepCount}
 use Rattle.rules.specs.Records.{HistoryRecord, recordAt, cutDown}
 use Rattle.rules.specs.Why.{namedStep, toldBy, newest}
 use Rattle.rules.specs.declared.NamedStep.{NamedStep}
 use Rattle.rules.specs.declared.Why.{Why}
 use Rattle.rules.specs.declared.Why.the-variants.{Named, NoKeptStep}
+use Rattle.rules.proofs.Tests.{by-test}
+use Rattle.rules.proofs.Splice.{length-part}
 use Rattle.rules.proofs.Records.{cut-next, cut-none}
 use Rattle.why.specs.Readable.{Readable, AllReadable}
-use Rattle.why.specs.Cells.{placesBefore}
-use Rattle.why.proofs.Cells.{before-within, told-there, told-older}
+
+-- ---- the last of a record's cell places tells first
+told-last : (cell : ℕ) (l : List ℕ) (q : ℕ) (told : ℕ → Why) (older : Why)
+    → toldBy cell (l ++ (q ∷ [])) told older ≡ cond (eqb (cellAddress q) cell) (told q) (toldBy cell l told older)
+told-last cell [] q told older = refl
+told-last cell (x ∷ l) q told older = told-last cell l q told (cond (eqb (cellAddress x) cell) (told x) older)
 
 module _ (table history : List ℕ) (used cell : ℕ) where
-  -- what all tell is told by the records of the places left, of which the newest is one step further back than those passed
-  pub record Looking (left back : ℕ) : Type 0 where
-    pub same : newest table cell 1 (cutDown 0 used history) ≡ newest table cell (back + 1) (cutDown 0 left history)
-    pub readable : AllReadable (length table) (cutDown 0 left history)
+  -- what a record tells by a cell place of the cell: `step` is its step place
+  abbrev tells : (back step : ℕ) → ℕ → Why
+  tells back step q = Named (namedStep table back step q)
+
+  -- so many places are left, so many step places were met, and `step` is the last of these; the places left from `low` on are cell places of its record, and what
+  -- all tell is told by them, or by the records of the places below
+  pub record Looking (left back step : ℕ) : Type 0 where
+    pub low : ℕ
+    pub under : low ≤ left
+    pub same : newest table cell 1 (cutDown 0 used history)
+        ≡ toldBy cell (part low (left - low) history) (tells back step) (newest table cell (back + 1) (cutDown 0 low history))
+    pub unmarked : (k : ℕ) → low ≤ k → k < left → mark (getD history k 0) ≡ 0
+    pub readable : AllReadable (length table) (cutDown 0 low history)
+    pub pc : low < left → stepPc step < length table
     pub within : back + left ≤ used
 
-  pub looking-none : AllReadable (length table) (cutDown 0 used history) → Looking used 0
-  looking-none h = record { same = refl; readable = h; within = omega arith }
+  -- no place is met yet
+  pub looking-none : (step : ℕ) → AllReadable (length table) (cutDown 0 used history) → Looking used 0 step
+  looking-none step h =
+      let empty : 0 ≡ used - used = omega arith in
+      record {
+        low = used;
+        under = omega arith;
+        same = ap (λ (n : ℕ). toldBy cell (part used n history) (tells 0 step) (newest table cell 1 (cutDown 0 used history))) empty;
+        unmarked = λ k above below. absurd (let z : ⊥ = omega (arith, above, below) in z);
+        readable = h;
+        pc = λ some. absurd (let z : ⊥ = omega (arith, some) in z);
+        within = omega arith;
+      }
 
-  -- ---- a loop's turn: the record whose step place is the last of the places left, and has x cells
-  module _ (left back : ℕ) (w : Looking left back) (some : 0 < left) where
-    abbrev top : HistoryRecord
-    top = recordAt (left - 1) history
+  pub at-last : (left back step : ℕ) → 0 < left → Looking left back step → Looking (suc (left - 1)) back step
+  at-last left back step some w = let last : left ≡ suc (left - 1) = omega arith in subst (λ (k : ℕ). Looking k back step) last w
 
-    top-readable : Readable (length table) top
-    unfolding cutDown
-    top-readable =
-        let last : left ≡ suc (left - 1) = omega arith in subst (λ (k : ℕ). AllReadable (length table) (cutDown 0 k history)) last (w .readable) .0
+  -- ---- a loop's turn: the last of the places left, place i
+  module _ (inside : used ≤ length history) (i back step : ℕ) (w : Looking (suc i) back step) where
+    abbrev place : ℕ
+    place = getD history i 0
 
-    pub old-pc : stepPc (getD history (left - 1) 0) < length table
-    old-pc = top-readable .pc
+    -- where no cell place is left, it is the step place of the next older record
+    module _ (none : w .low ≡ suc i) where
+      all-readable : AllReadable (length table) (cutDown 0 (suc i) history)
+      all-readable = subst (λ (k : ℕ). AllReadable (length table) (cutDown 0 k history)) none (w .readable)
 
-    module _ (inside : used ≤ length history) (x : ℕ) (is : x ≡ stepCount (getD history (left - 1) 0)) where
-      pub passes : x ≤ left - 1
-      passes = omega (arith, is, top-readable .cells)
+      top : Readable (length table) (recordAt i history)
+      unfolding cutDown
+      top = all-readable .0
 
-      cuts : cutDown 0 left history ≡ top ∷ cutDown 0 (left - 1 - x) history
-      cuts =
-          let last : left ≡ suc (left - 1) = omega arith in
-          ap (λ (k : ℕ). cutDown 0 k history) last ∙ cut-next (left - 1) history (top-readable .cells)
-          ∙ ap (λ (k : ℕ). top ∷ cutDown 0 (left - 1 - k) history) (sym is)
+      abbrev below : ℕ
+      below = i - stepCount place
 
-      -- its cells are the part of the history that the code lends
-      abbrev cells-lent : List ℕ
-      cells-lent = take (left - 1 - (left - 1 - x)) (drop (left - 1 - x) history)
+      cuts : cutDown 0 (suc i) history ≡ recordAt i history ∷ cutDown 0 below history
+      cuts = cut-next i history (top .within)
 
-      lent-is : cells-lent ≡ top .cells
-      lent-is =
-          let all : left - 1 - (left - 1 - x) ≡ x = omega (arith, passes) in
-          ap (λ (k : ℕ). take k (drop (left - 1 - x) history)) all ∙ ap (λ (k : ℕ). part (left - 1 - k) k history) is
+      top-same : newest table cell 1 (cutDown 0 used history)
+          ≡ toldBy cell (part below (i - below) history) (tells (back + 1) place) (newest table cell (back + 1 + 1) (cutDown 0 below history))
+      top-same =
+          let empty : suc i - w .low ≡ 0 = omega (arith, none) in
+          let all : stepCount place ≡ i - below = omega (arith, top .within) in
+          w .same
+          ∙ ap (λ (n : ℕ). toldBy cell (part (w .low) n history) (tells back step) (newest table cell (back + 1) (cutDown 0 (w .low) history))) empty
+          ∙ ap (λ (k : ℕ). newest table cell (back + 1) (cutDown 0 k history)) none
+          ∙ ap (newest table cell (back + 1)) cuts
+          ∙ ap (λ (n : ℕ). toldBy cell (part below n history) (tells (back + 1) place) (newest table cell (back + 1 + 1) (cutDown 0 below history))) all
 
-      long : length cells-lent ≡ x
-      long =
-          length-take (left - 1 - (left - 1 - x)) (drop (left - 1 - x) history) ∙ omega (arith, length-drop (left - 1 - x) history, passes, w .within)
+      top-unmarked : (k : ℕ) → below ≤ k → k < i → mark (getD history k 0) ≡ 0
+      top-unmarked k above under =
+          let at : below + (k - below) ≡ k = omega (arith, above) in
+          let few : k - below < stepCount place = omega (arith, above, under, top .within) in
+          let long : length (part below (stepCount place) history) ≡ stepCount place =
+          length-part below (stepCount place) history (omega (arith, top .within, w .within, inside)) in
+          ap mark
+          (sym
+          (getD-take (stepCount place) (drop below history) (k - below) 0 few ∙ getD-drop below history (k - below) 0
+          ∙ ap (λ (n : ℕ). getD history n 0) at))
+          ∙ top .unmarked (k - below) (omega (arith, few, long))
 
-      -- with k of them before the cell's
-      module _ (k : ℕ) (placed : k ≡ placesBefore cell cells-lent) where
-        pub stays-within : left - 1 - x + k ≤ left - 1
-        stays-within = omega (arith, placed, before-within cell cells-lent, long, passes)
+      opened : Looking i (back + 1) place
+      opened =
+          record {
+            low = below;
+            under = omega arith;
+            same = top-same;
+            unmarked = top-unmarked;
+            readable = subst (AllReadable (length table)) cuts all-readable .1;
+            pc = λ some. top .pc;
+            within = omega (arith, w .within);
+          }
 
-        -- what it tells by a place of the cell, and what the older ones tell
-        abbrev tell : ℕ → Why
-        tell q = Named (namedStep table (back + 1) (top .place) q)
+    pub look-step : mark place ≡ 1 → Looking i (back + 1) place
+    look-step marked = opened none
+      where
+        outside : w .low < suc i → ⊥
+        outside some = let unmarked : mark place ≡ 0 = w .unmarked i (omega (arith, some)) (omega arith) in omega (arith, marked, unmarked)
 
-        abbrev older : Why
-        older = newest table cell (back + 1 + 1) (cutDown 0 (left - 1 - x) history)
+        none : w .low ≡ suc i
+        none =
+            by-test (ltb (w .low) (suc i)) (λ t. absurd (outside (ltb-true (w .low) (suc i) t)))
+            (λ t. omega (arith, ltb-false (w .low) (suc i) t, w .under))
 
-        told : newest table cell 1 (cutDown 0 used history) ≡ toldBy cell cells-lent tell older
-        told = w .same ∙ ap (newest table cell (back + 1)) cuts ∙ ap (λ (l : List ℕ). toldBy cell l tell older) (sym lent-is)
+    -- one cell place more, of another cell; or of the cell
+    module _ (unmarked : mark place ≡ 1 → ⊥) where
+      some : w .low < suc i
+      some = by-test (ltb (w .low) (suc i)) (λ t. ltb-true (w .low) (suc i) t) (λ t. absurd (unmarked (top (omega (arith, ltb-false (w .low) (suc i) t, w .under)) .marked)))
 
-        -- it has a place of the cell
-        pub look-found : left - 1 - x + k < left - 1 → (n : NamedStep)
-            → n ≡ namedStep table (back + 1) (getD history (left - 1) 0) (getD history (left - 1 - x + k) 0)
-            → Named n ≡ newest table cell 1 (cutDown 0 used history)
-        look-found h n named =
-            let few : k < left - 1 - (left - 1 - x) = omega (arith, h, passes) in
-            let there : placesBefore cell cells-lent < length cells-lent = omega (arith, placed, long, few, passes) in
-            let read : getD cells-lent k 0 ≡ getD history (left - 1 - x + k) 0 =
-            getD-take (left - 1 - (left - 1 - x)) (drop (left - 1 - x) history) k 0 few ∙ getD-drop (left - 1 - x) history k 0 in
-            ap Named named ∙ ap tell (sym read) ∙ ap (λ (j : ℕ). tell (getD cells-lent j 0)) placed
-            ∙ sym (told ∙ told-there cell tell older cells-lent there)
+      abbrev older : Why
+      older = newest table cell (back + 1) (cutDown 0 (w .low) history)
 
-        -- it has none, and is passed
-        pub look-further : left - 1 ≤ left - 1 - x + k → Looking (left - 1 - x) (back + 1)
-        look-further h =
-            let none : length cells-lent ≤ placesBefore cell cells-lent = omega (arith, placed, long, h, passes) in
-            record {
-              same = told ∙ told-older cell tell older cells-lent none;
-              readable = subst (AllReadable (length table)) cuts (w .readable) .1;
-              within = omega (arith, w .within);
-            }
+      split : part (w .low) (suc i - w .low) history ≡ part (w .low) (i - w .low) history ++ (place ∷ [])
+      split =
+          let more : suc i - w .low ≡ suc (i - w .low) = omega (arith, some) in
+          let at : w .low + (i - w .low) ≡ i = omega (arith, some) in
+          ap (λ (n : ℕ). part (w .low) n history) more
+          ∙ take-suc (drop (w .low) history) (i - w .low) 0 (omega (arith, some, length-drop (w .low) history, w .within, inside))
+          ∙ ap (λ (q : ℕ). part (w .low) (i - w .low) history ++ (q ∷ [])) (getD-drop (w .low) history (i - w .low) 0 ∙ ap (λ (k : ℕ). getD history k 0) at)
+
+      told : (b : Bool) → eqb (cellAddress place) cell ≡ b
+          → newest table cell 1 (cutDown 0 used history)
+          ≡ cond b (tells back step place) (toldBy cell (part (w .low) (i - w .low) history) (tells back step) older)
+      told b e =
+          w .same ∙ ap (λ (l : List ℕ). toldBy cell l (tells back step) older) split
+          ∙ told-last cell (part (w .low) (i - w .low) history) place (tells back step) older
+          ∙ ap (λ (t : Bool). cond t (tells back step place) (toldBy cell (part (w .low) (i - w .low) history) (tells back step) older)) e
+
+      pub step-within : stepPc step < length table
+      step-within = w .pc some
+
+      pub look-found : cellAddress place ≡ cell → (n : NamedStep) → n ≡ namedStep table back step place → Named n ≡ newest table cell 1 (cutDown 0 used history)
+      look-found here n is = ap Named is ∙ sym (told true (eq-eqb (cellAddress place) cell here))
+
+      pub look-cell : (cellAddress place ≡ cell → ⊥) → Looking i back step
+      look-cell other =
+          record {
+            low = w .low;
+            under = omega (arith, some);
+            same = told false (ne-eqb (cellAddress place) cell other);
+            unmarked = λ k above below. w .unmarked k above (omega (arith, below));
+            readable = w .readable;
+            pc = λ more. w .pc some;
+            within = omega (arith, w .within);
+          }
 
   -- ---- its end
-  pub look-ended : (left back : ℕ) → Looking left back → left ≤ 0 → NoKeptStep ≡ newest table cell 1 (cutDown 0 used history)
-  look-ended left back w none =
-      let end : left ≡ 0 = omega arith in
+  pub look-ended : (left back step : ℕ) → Looking left back step → left ≤ 0 → NoKeptStep ≡ newest table cell 1 (cutDown 0 used history)
+  look-ended left back step w none =
+      let end : w .low ≡ 0 = omega (arith, w .under) in
+      let empty : left - w .low ≡ 0 = omega (arith, w .under) in
       sym
-      (w .same ∙ ap (λ (k : ℕ). newest table cell (back + 1) (cutDown 0 k history)) end ∙ ap (newest table cell (back + 1)) (cut-none history))
+      (w .same
+      ∙ ap (λ (n : ℕ). toldBy cell (part (w .low) n history) (tells back step) (newest table cell (back + 1) (cutDown 0 (w .low) history))) empty
+      ∙ ap (λ (k : ℕ). newest table cell (back + 1) (cutDown 0 k history)) end
+      ∙ ap (newest table cell (back + 1)) (cut-none history))

@@ -1,3 +1,2 @@
--- What a look through the records leans on, and where it finds a cell.
+-- What a look down the places leans on.
 pub mod Readable
-pub mod Cells

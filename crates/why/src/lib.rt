@@ -13,21 +13,6 @@ ghost use Rattle.rules.specs.State.{memory};
 ghost use Rattle.rules.specs.Records.{cutDown};
 ghost use Rattle.rules.specs.Why.{namedStep, newest, why};
 ghost use Rattle.why.specs.Readable.{AllReadable};
-ghost use Rattle.why.specs.Cells.{placesBefore};
-
-// How many cell places are before the first that has the cell's address: all, where none has.
-fn places_before(cells: &[u64], cell: usize) -> usize
-    ensures { λ a. ⌜ a ≡ placesBefore cell (now (cells .entry)) ⌝ }
-{
-    let mut i = 0;
-    while i < cells.len() {
-        if places::cell_address(cells[i]) == cell {
-            return i;
-        }
-        i += 1;
-    }
-    i
-}
 
 // The step of a step place, so many steps back, with what the cell held before: `old` is the cell's place in its record.
 fn named_step(table: &[u64], back: usize, step: u64, old: u64) -> NamedStep
@@ -48,7 +33,7 @@ fn named_step(table: &[u64], back: usize, step: u64, old: u64) -> NamedStep
     }
 }
 
-// Looks through the records of the `used` places from the newest down, until one has a place of the cell.
+// Looks down the `used` places from the last: a step place begins the next older record, and the first cell place of the cell tells its step.
 fn newest(table: &[u64], history: &[u64], used: usize, cell: usize) -> Why
     requires { ⌜ used ≤ length (now history) ⌝ }
     requires { ⌜ AllReadable (length (now table)) (cutDown 0 used (now history)) ⌝ }
@@ -56,16 +41,16 @@ fn newest(table: &[u64], history: &[u64], used: usize, cell: usize) -> Why
 {
     let mut left = used;
     let mut back = 0;
+    let mut step = 0u64;
     while 0 < left {
-        back += 1;
-        let last = left - 1;
-        let step = history[last];
-        let from = last - places::step_count(step);
-        let at = from + places_before(&history[from..last], cell);
-        if at < last {
-            return Why::Named(named_step(table, back, step, history[at]));
+        left -= 1;
+        let place = history[left];
+        if places::mark_of(place) == places::STEP_MARK {
+            back += 1;
+            step = place;
+        } else if places::cell_address(place) == cell {
+            return Why::Named(named_step(table, back, step, place));
         }
-        left = from;
     }
     Why::NoKeptStep
 }
