@@ -103,7 +103,7 @@ static void pack_by_a_copy(void) {
 }
 
 /* All 256 labels, every form of operand, the longest number and decimal, both conversions, a character; for ever in its
- * first sixteen instructions, so that the output is not full after STEPS. */
+ * first sixteen instructions, so that the output is not full after STEPS or MANY_STEPS. */
 static void write_full_source(void) {
     for (int i = 0; i < PAIRS; i++) {
         source_len += (size_t)sprintf(source + source_len,

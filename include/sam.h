@@ -1,8 +1,8 @@
 /* The SaM machine for C: every call of the proved library, with numbers and lent memory only.
  *
  * Link target/staticlib/libsam_c.a. Every call gives a number of document 01, with what requests a (24, 33), d (6),
- * e (5, 25, 33), f (60 to 63), g (10), h (10, 11, 12, 43), i (10, 14), j (11, 64 to 66), k (10, 41, 45, 67) and l (6)
- * add:
+ * e (5, 25, 33), f (60 to 63), g (10), h (10, 11, 12, 43), i (10, 14), j (11, 64 to 66), k (10, 41, 45, 67) and l (6,
+ * 10) add:
  *
  *    0  done, or a run found HALT 1
  *    1  step with HALT 1
@@ -179,7 +179,7 @@ uint32_t sam_dwell(const uint64_t *table, size_t places, uint64_t length, const 
  * writes nothing but told. A step that wrote what the cell held already wrote it. Any cell below N may be asked, at SP
  * and above too. 10 as for a forget, then 6 where the cell is not below N. told[6]: found, steps back, PC, the place at
  * that PC in the table that is handed in, old tag, old bits. All six are 0 where no step that can be taken back wrote
- * the cell, which is no refusal, and where it is refused; only `found` tells a named step from none. */
+ * the cell, which is done (0) too, and where it is refused. */
 uint32_t sam_why(const uint64_t *table, size_t places, uint64_t length, uint64_t cell, const uint64_t *registers,
                  size_t registers_len, const uint32_t *bits, size_t n, const uint8_t *tags, size_t tags_len,
                  const uint64_t *history, size_t h, const uint8_t *output, size_t output_len, uint64_t *told,

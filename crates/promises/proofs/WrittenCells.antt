@@ -50,7 +50,7 @@ module _ (count cell : ℕ) (told : ℕ → Why) where
       ap (λ (i : Bool). toldBy cell (cellPlaces (suc a) ts bs) told (cond i (told (cellPlace a t b)) older))
       (ap (λ (n : ℕ). eqb n cell) (cellAddress-of a t b (omega arith) (k .tag) (k .bits)) ∙ e)
 
-  pub told-outside : (a : ℕ) (ts bs : List ℕ) (older : Why) → length ts ≡ length bs → a + length bs ≤ maxCells → Each (Keepable count) ts bs
+  told-outside : (a : ℕ) (ts bs : List ℕ) (older : Why) → length ts ≡ length bs → a + length bs ≤ maxCells → Each (Keepable count) ts bs
       → (a ≤ cell → cell < a + length bs → ⊥) → toldBy cell (cellPlaces a ts bs) told older ≡ older
   told-outside a [] bs older even few k out = refl
   told-outside a (t ∷ ts) [] older even few k out = refl
@@ -59,7 +59,7 @@ module _ (count cell : ℕ) (told : ℕ → Why) where
       at-address a t b ts bs older (omega arith) (k 0) false (ne-eqb a cell other)
       ∙ told-outside (suc a) ts bs older (omega (arith, even)) (omega arith) (λ i. k (suc i)) (λ low high. out (omega (arith, low)) (omega (arith, high)))
 
-  pub told-inside : (a : ℕ) (ts bs : List ℕ) (older : Why) → length ts ≡ length bs → a + length bs ≤ maxCells → Each (Keepable count) ts bs → a ≤ cell
+  told-inside : (a : ℕ) (ts bs : List ℕ) (older : Why) → length ts ≡ length bs → a + length bs ≤ maxCells → Each (Keepable count) ts bs → a ≤ cell
       → cell < a + length bs → toldBy cell (cellPlaces a ts bs) told older ≡ told (cellPlace cell (getD ts (cell - a) 0) (getD bs (cell - a) 0))
   told-inside a [] [] older even few k low high = absurd (let z : ⊥ = omega arith in z)
   told-inside a [] (b ∷ bs) older even few k low high = absurd (let z : ⊥ = omega (arith, even) in z)
@@ -84,8 +84,7 @@ module _ (count cell : ℕ) (told : ℕ → Why) where
 
 -- ---- an effect on N cells
 
-module _ (count cell n : ℕ) (c : Cells) (e : Effect) (few : n ≤ maxCells) (bits : length (c .bits) ≡ n) (tags : length (c .tags) ≡ n)
-    (fits : e .at + e .count ≤ n) where
+module _ (cell n : ℕ) (c : Cells) (e : Effect) (bits : length (c .bits) ≡ n) (tags : length (c .tags) ≡ n) (fits : e .at + e .count ≤ n) where
   long-bits : length (part (e .at) (e .count) (c .bits)) ≡ e .count
   long-bits = length-part (e .at) (e .count) (c .bits) (omega (arith, fits, bits))
 
@@ -93,7 +92,7 @@ module _ (count cell n : ℕ) (c : Cells) (e : Effect) (few : n ≤ maxCells) (b
   even = length-part (e .at) (e .count) (c .tags) (omega (arith, fits, tags)) ∙ sym long-bits
 
   -- what its record tells of a cell
-  module _ (keepable : Each (Keepable count) (part (e .at) (e .count) (c .tags)) (part (e .at) (e .count) (c .bits))) (told : ℕ → Why) (older : Why) where
+  module _ (count : ℕ) (few : n ≤ maxCells) (keepable : Each (Keepable count) (part (e .at) (e .count) (c .tags)) (part (e .at) (e .count) (c .bits))) (told : ℕ → Why) (older : Why) where
     pub kept-inside : e .at ≤ cell → cell < e .at + e .count
         → toldBy cell (cellsKept c e) told older ≡ told (cellPlace cell (getD (c .tags) cell 0) (getD (c .bits) cell 0))
     kept-inside low high =

@@ -1,7 +1,7 @@
 -- Request l: "the named step did write that cell and no later kept one did": `explained`. After any series from any origin, of any cell. The records in use are the newest
 -- of the fresh run (`demand3`), and each of them tells of the cells that its step's effect wrote, and of no others. Assumes nothing.
 use Prim.Native.Nat.{ℕ, zero, suc, _+_, _-_, _^_, _≤_, _<_}
-use mathlib.Core.Path.{_≡_, refl, sym, ap, ap₂, _∙_, subst}
+use mathlib.Core.Path.{_≡_, sym, ap, ap₂, _∙_, subst}
 use mathlib.Core.Bool.{Bool, true, false, cond}
 use mathlib.Core.List.{List, [], _∷_, map}
 use native.Mathlib.Nat.{zero-add}
@@ -37,7 +37,7 @@ use Rattle.rules.proofs.Asking.{why-outside, why-newest}
 use Rattle.rules.proofs.Sound.{Each}
 use Rattle.promises.specs.Unbounded.{Unbounded, moves, decided, moved}
 use Rattle.promises.specs.Series.{Request, State, plain, Session, series, begin, Origin, ahead, Promised}
-use Rattle.promises.specs.Wrote.{before, holding, Writes, Wrote, ToldOf, Explained}
+use Rattle.promises.specs.Wrote.{stood, holding, Writes, Wrote, ToldOf, Explained}
 use Rattle.promises.proofs.Demand3Good.{Good}
 use Rattle.promises.proofs.Demand3Run.{Makes, made-fair, all-made}
 use Rattle.promises.proofs.Demand3Held.{Begins}
@@ -98,22 +98,22 @@ module _ (p : Program) (y : Unbounded) (good : Good p (plain y)) (e : Effect) (q
     keepable-there : Each (Keepable (p .count)) (part (e .at) (e .count) (y .cells .tags)) (part (e .at) (e .count) (y .cells .bits))
     keepable-there = keepable p (plain y .registers) (plain y .memory) sound-there (good .narrow) (e .at) (e .count)
 
-    pub newest-wrote : Writes (Does e) cell → newest (p .places) cell back (w ∷ ws) ≡ Named (named-there back)
+    newest-wrote : Writes (Does e) cell → newest (p .places) cell back (w ∷ ws) ≡ Named (named-there back)
     newest-wrote wrote =
         by-record
-        ∙ kept-inside (p .count) cell (y .registers .n) (y .cells) e (sound-there .few) (sound-there .bits) (sound-there .tags) fits keepable-there
+        ∙ kept-inside cell (y .registers .n) (y .cells) e (sound-there .bits) (sound-there .tags) fits (p .count) (sound-there .few) keepable-there
         (λ q. Named (namedStep (p .places) back step-there q)) older (wrote .0) (wrote .1)
         ∙ ap Named (named-is back (omega (arith, wrote .1, fits)))
 
-    pub newest-older : (Writes (Does e) cell → ⊥) → newest (p .places) cell back (w ∷ ws) ≡ older
+    newest-older : (Writes (Does e) cell → ⊥) → newest (p .places) cell back (w ∷ ws) ≡ older
     newest-older not =
         by-record
-        ∙ kept-outside (p .count) cell (y .registers .n) (y .cells) e (sound-there .few) (sound-there .bits) (sound-there .tags) fits keepable-there
+        ∙ kept-outside cell (y .registers .n) (y .cells) e (sound-there .bits) (sound-there .tags) fits (p .count) (sound-there .few) keepable-there
         (λ q. Named (namedStep (p .places) back step-there q)) older (λ low high. not (low, high))
 
-  pub holding-still : (Writes (Does e) cell → ⊥) → holding (moves y (Does e)) cell ≡ holding y cell
+  holding-still : (Writes (Does e) cell → ⊥) → holding (moves y (Does e)) cell ≡ holding y cell
   holding-still not =
-      cell-stays (p .count) cell (y .registers .n) (y .cells) e (sound-there .few) (sound-there .bits) (sound-there .tags) fits (λ low high. not (low, high))
+      cell-stays cell (y .registers .n) (y .cells) e (sound-there .bits) (sound-there .tags) fits (λ low high. not (low, high))
 
 -- whether an effect writes a cell
 writes-or-not : {P : Type 0} (e : Effect) (cell : ℕ) → (Writes (Does e) cell → P) → ((Writes (Does e) cell → ⊥) → P) → P
@@ -128,7 +128,7 @@ writes-or-not e cell does leaves =
 
 module _ (p : Program) (x : Unbounded) (none : x .records ≡ []) (good-at : (k : ℕ) → Makes p x k → Good p (plain (moved p k x))) (far cell : ℕ) where
   -- a step that did not write the cell, before those that are told of
-  module _ (back k : ℕ) (not : Wrote p x far cell (back + 1) → ⊥) (still : holding (before p x far back) cell ≡ holding (before p x far (back + 1)) cell) where
+  module _ (back k : ℕ) (not : Wrote p x far cell (back + 1) → ⊥) (still : holding (stood p x far back) cell ≡ holding (stood p x far (back + 1)) cell) where
     later-too : (j : ℕ) → back < j → (back + 1 < j → Wrote p x far cell j → ⊥) → Wrote p x far cell j → ⊥
     later-too j low rest =
         by-test (eqb j (back + 1))
@@ -151,7 +151,7 @@ module _ (p : Program) (x : Unbounded) (none : x .records ≡ []) (good-at : (k 
         let all : back + 1 + k ≡ back + suc k = omega arith in
         record {
           none = λ j low high. later-too j low (λ more. t .none j more (omega (arith, high)));
-          holds = still ∙ t .holds ∙ ap (λ (n : ℕ). holding (before p x far n) cell) all;
+          holds = still ∙ t .holds ∙ ap (λ (n : ℕ). holding (stood p x far n) cell) all;
         }
     widen (NotNamed e) t = t
 
@@ -160,7 +160,7 @@ module _ (p : Program) (x : Unbounded) (none : x .records ≡ []) (good-at : (k 
       → map wholeRecord ws ≡ take k (moved p made x .records) → ToldOf p x far back (back + k) cell (newest (p .places) cell (back + 1) ws)
   tells zero made back [] m at long same =
       let all : back ≡ back + 0 = omega arith in
-      record { none = λ j low high. absurd (let z : ⊥ = omega (arith, low, high) in z); holds = ap (λ (n : ℕ). holding (before p x far n) cell) all }
+      record { none = λ j low high. absurd (let z : ⊥ = omega (arith, low, high) in z); holds = ap (λ (n : ℕ). holding (stood p x far n) cell) all }
   tells zero made back (w ∷ ws) m at long same = absurd (let z : ⊥ = omega (arith, long) in z)
   tells (suc k) made back [] m at long same = absurd (let z : ⊥ = omega (arith, long) in z)
   tells (suc k) zero back (w ∷ ws) m at long same =
@@ -188,7 +188,7 @@ module _ (p : Program) (x : Unbounded) (none : x .records ≡ []) (good-at : (k 
         pc = ap (λ (n : ℕ). moved p n x .registers .pc) (sym here);
         instruction = ap (λ (n : ℕ). getD (p .places) (moved p n x .registers .pc) 0) (sym here);
         held = ap (λ (n : ℕ). holding (moved p n x) cell) (sym here);
-        holds = ap (λ (n : ℕ). holding (before p x far n) cell) (sym one);
+        holds = ap (λ (n : ℕ). holding (stood p x far n) cell) (sym one);
       }))
       (λ not.
       let still : holding (moved p (suc made) x) cell ≡ holding y cell =
@@ -208,7 +208,9 @@ module _ (p : Program) (r : Registers) (m : Memory) where
   not-ten done =
       by-test (every (recordTests p r m)) (λ t. t)
       (λ t.
-      let zero : 10 ≡ 0 = ap (λ (o : Forget.Forgets). numberOfForgot (o .answer)) (sym (forget-broken p 0 r m t)) ∙ done ∙ ap (λ (b : Bool). cond b 0 (forgetNumber TooManySteps)) (leb·zero (r .kept)) in
+      let zero : 10 ≡ 0 =
+      ap (λ (o : Forget.Forgets). numberOfForgot (o .answer)) (sym (forget-broken p 0 r m t)) ∙ done
+      ∙ ap (λ (b : Bool). cond b 0 (forgetNumber TooManySteps)) (leb·zero (r .kept)) in
       absurd (let z : ⊥ = omega (arith, zero) in z))
 
 -- S minus B minus F, or 0 with H = 0, is at most S minus B
@@ -224,8 +226,10 @@ explained p o x origin qs cell =
     let ws : List HistoryRecord = recordsInUse (s .registers) (s .memory) in
     let passes : every (recordTests p (s .registers) (s .memory)) ≡ true = not-ten p (s .registers) (s .memory) (promised .forgets 0) in
     let long : s .registers .kept ≡ length ws = eqb-true (s .registers .kept) (length ws) (every-at (recordTests p (s .registers) (s .memory)) 2 passes) in
+    let now : ahead s ≡ ahead s - 0 = omega arith in
     let makes : Makes p x (ahead s) = all-made p x (begins .none) (ahead s) (promised .steps) in
     record {
+      cells = promised .cells ∙ ap (λ (n : ℕ). moved p n x .cells) now;
       kept = omega (arith, promised .kept, at-most (ltb 0 (s .registers .h)) (ahead s) (s .forgotten));
       told =
           λ low.

@@ -19,9 +19,9 @@ use Rattle.promises.specs.Series.{Session, ahead}
 
 -- ---- the steps of a run, counted back
 
--- of a run of `far` steps from x: where it stood before the step that is so many steps back, "newest 1"; with 0 where it stands
-abbrev pub before : Program → Unbounded → (far back : ℕ) → Unbounded
-before p x far back = moved p (far - back) x
+-- where a run of `far` steps from x stood before the step that is so many steps back, "newest 1"; 0 steps back is where it stands
+abbrev pub stood : Program → Unbounded → (far back : ℕ) → Unbounded
+stood p x far back = moved p (far - back) x
 
 -- "what the cell held .. with its tag"
 abbrev pub holding : Unbounded → (cell : ℕ) → Cell
@@ -34,9 +34,9 @@ Writes (Refuses y) cell = ⊥
 
 -- the step that is so many steps back "wrote it"
 abbrev pub Wrote : Program → Unbounded → (far cell back : ℕ) → Type 0
-Wrote p x far cell back = Writes (decided p (before p x far back)) cell
+Wrote p x far cell back = Writes (decided p (stood p x far back)) cell
 
--- ---- what is told of a cell, by the steps that are more than `from` and at most `upto` steps back
+-- ---- what is told of a cell, by the steps that are more than `from` and at most `upto` steps back: of a session `from` is 0, and `upto` its kept number
 
 pub record NewestOf (p : Program) (x : Unbounded) (far from upto cell : ℕ) (a : NamedStep) : Type 0 where
   -- it is one of them
@@ -47,17 +47,17 @@ pub record NewestOf (p : Program) (x : Unbounded) (far from upto cell : ℕ) (a 
   -- "and no later kept one did"
   pub newest : (later : ℕ) → from < later → later < a .back → Wrote p x far cell later → ⊥
   -- "its PC, the instruction, and what the cell held before with its tag"
-  pub pc : a .pc ≡ before p x far (a .back) .registers .pc
-  pub instruction : a .instruction ≡ getD (p .places) (before p x far (a .back) .registers .pc) 0
-  pub held : a .before ≡ holding (before p x far (a .back)) cell
-  -- "Why does this cell hold that?": what it holds is what that step left there
-  pub holds : holding (before p x far from) cell ≡ holding (before p x far (a .back - 1)) cell
+  pub pc : a .pc ≡ stood p x far (a .back) .registers .pc
+  pub instruction : a .instruction ≡ getD (p .places) (stood p x far (a .back) .registers .pc) 0
+  pub held : a .before ≡ holding (stood p x far (a .back)) cell
+  -- "Why does this cell hold that?": what it holds where the run stands is what that step left there
+  pub holds : holding (stood p x far from) cell ≡ holding (stood p x far (a .back - 1)) cell
 
 pub record NoneOf (p : Program) (x : Unbounded) (far from upto cell : ℕ) : Type 0 where
   -- "no kept step wrote the cell"
   pub none : (back : ℕ) → from < back → back ≤ upto → Wrote p x far cell back → ⊥
-  -- it holds what it held before them all
-  pub holds : holding (before p x far from) cell ≡ holding (before p x far upto) cell
+  -- it holds where the run stands what it held before them all
+  pub holds : holding (stood p x far from) cell ≡ holding (stood p x far upto) cell
 
 abbrev pub ToldOf : Program → Unbounded → (far from upto cell : ℕ) → Why → Type 0
 ToldOf p x far from upto cell (Named a) = NewestOf p x far from upto cell a
@@ -67,7 +67,9 @@ ToldOf p x far from upto cell (NotNamed e) = ⊥
 -- ---- what is promised of a session, beside the fresh run from x
 
 pub record Explained (p : Program) (x : Unbounded) (s : Session) (cell : ℕ) : Type 0 where
-  -- the kept steps are the newest of the S minus B that the fresh run makes
+  -- cells and tags are those where the fresh run stands, after S minus B steps
+  pub cells : s .memory .cells ≡ stood p x (ahead s) 0 .cells
+  -- of which no more are kept than there are
   pub kept : s .registers .kept ≤ ahead s
   -- of a cell below N one of them is named, or none
   pub told : cell < s .registers .n → ToldOf p x (ahead s) 0 (s .registers .kept) cell (why p cell (s .registers) (s .memory))

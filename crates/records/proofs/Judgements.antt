@@ -54,7 +54,7 @@ module _ (n count kept stay used : ℕ) (history : List ℕ) (w : Walk) (e : w �
 -- ---- what a caller is told
 
 module _ (n count kept stay : ℕ) (ws : List HistoryRecord) (w : Judgement) (e : w ≡ judgement n count kept stay ws) where
-  pub judged-passes : w .passes ≡ every (keptTests n count kept ws)
+  judged-passes : w .passes ≡ every (keptTests n count kept ws)
   unfolding judgement
   judged-passes = ap (λ (a : Judgement). a .passes) e ∙ which (every (keptTests n count kept ws))
     where

@@ -12,7 +12,7 @@ use Rattle.rules.specs.Lists.{every, part, splice}
 use Rattle.rules.specs.Places.{stepCount}
 use Rattle.rules.specs.Table.{Program}
 use Rattle.rules.specs.State.{Memory}
-use Rattle.rules.specs.Records.{HistoryRecord, recordAt, cutDown, recordsInUse, formedRecord, formedRecords, recordTests, placesTaken}
+use Rattle.rules.specs.Records.{HistoryRecord, recordAt, cutDown, formedRecord, formedRecords, recordTests, placesTaken}
 use Rattle.rules.specs.Forget.{freed, movedDown, forgotten, notForgotten, forget}
 use Rattle.rules.specs.declared.Registers.{Registers}
 use Rattle.rules.specs.declared.ForgetRefusal.the-variants.{RecordsBroken, TooManySteps}

@@ -66,19 +66,22 @@ storeOff n = place 43 n
 abbrev complaint : (limit k back : ℕ) → List Question → Bool
 complaint = after 6 "PUSHIMM 40 PUSHIMMF #40200000 STOREOFF 0"
 
--- ---- states made by hand: a halted machine of two cells under `JUMP 0`; these history places, the first so many used
+-- ---- states made by hand: a halted machine of three cells under a program of one instruction; these history places, the first so many used
 
-abbrev given : List ℕ → (used kept : ℕ) → List Question → Bool
-given l used kept qs =
-    answers (programOf "JUMP 0")
+abbrev givenUnder : String → List ℕ → (used kept : ℕ) → List Question → Bool
+givenUnder source l used kept qs =
+    answers (programOf source)
     (record {
       number = 0;
-      registers = record { n = 2; h = length l; pc = 1; sp = 1; fbr = 1; halt = 1; used = used; kept = kept; written = 1 };
-      memory = memory (8 ∷ 9 ∷ []) (0 ∷ 1 ∷ []) l (72 ∷ 5 ∷ []);
+      registers = record { n = 3; h = length l; pc = 1; sp = 1; fbr = 1; halt = 1; used = used; kept = kept; written = 1 };
+      memory = memory (8 ∷ 9 ∷ 7 ∷ []) (0 ∷ 1 ∷ 2 ∷ []) l (72 ∷ 5 ∷ []);
     })
     qs
 
--- cell places: at address 0 the old FLOAT 2, at address 1 the old CH 65 and the old PA 1
+abbrev given : List ℕ → (used kept : ℕ) → List Question → Bool
+given = givenUnder "JUMP 0"
+
+-- cell places: at address 0 the old FLOAT 2, at address 1 the old CH 65 and the old PA 1, at address 2 the old CH 65
 abbrev float0 : ℕ
 float0 = 0x0005000000000000
 
@@ -88,9 +91,12 @@ ch1 = 0x0030000001040000
 abbrev pa1 : ℕ
 pa1 = 0x002C000000040000
 
+abbrev ch2 : ℕ
+ch2 = 0x0050000001040000
+
 -- the step place of a step that wrote two cells, with SP 1
-abbrev wroteBoth : ℕ
-wroteBoth = 0x8000040000800000
+abbrev wroteTwo : ℕ
+wroteTwo = 0x8000040000800000
 
 unfoldable pub questions : List Bool
 questions =
@@ -113,10 +119,11 @@ questions =
     (names 0 2 5 (storeOff 0) 0 7 ∷ names 1 3 4 (pushImm 9) 0 7 ∷ none 2 ∷ [])
     -- "SWAP 2": both cells, each with what it held
     ∷ after 16 "PUSHIMM 1 PUSHIMMCH 66 SWAP STOP" maxLimit 0 0 (names 0 2 2 (place 4 0) 0 1 ∷ names 1 2 2 (place 4 0) 4 66 ∷ none 2 ∷ [])
-    -- "ADDSP up .. writes INT 0 in each cell": the first, those between and the last of a fill, and none behind it; ADDSP down writes none
+    -- "ADDSP up .. writes INT 0 in each cell": the first, those between and the last of a fill, and none behind it; ADDSP down writes none, so that cells at SP and above
+    -- it keep the step that pushed them
     ∷ after 16 "PUSHIMM 5 ADDSP -1 ADDSP 3 STOP" maxLimit 0 0
     (names 0 2 2 (place 39 3) 0 5 ∷ names 1 2 2 (place 39 3) 0 0 ∷ names 2 2 2 (place 39 3) 0 0 ∷ none 3 ∷ [])
-    ∷ after 16 "PUSHIMM 5 ADDSP -1 STOP" maxLimit 0 0 (names 0 3 0 (pushImm 5) 0 0 ∷ none 1 ∷ [])
+    ∷ after 16 "PUSHIMM 5 PUSHIMM 6 ADDSP -2 STOP" maxLimit 0 0 (names 0 4 0 (pushImm 5) 0 0 ∷ names 1 3 1 (pushImm 6) 0 0 ∷ none 2 ∷ [])
     -- "or POPSP up": MA 3 and the popped INT 3 were there
     ∷ after 16 "PUSHSP PUSHIMM 3 ADD POPSP STOP" maxLimit 0 0
     (names 0 2 3 (place 35 0) 2 3 ∷ names 1 2 3 (place 35 0) 0 3 ∷ names 2 2 3 (place 35 0) 0 0 ∷ none 3 ∷ [])
@@ -126,19 +133,24 @@ questions =
     ∷ after 16 "PUSHIMMCH 65 WRITECH STOP" maxLimit 0 0 (names 0 3 0 (place 52 65) 0 0 ∷ [])
     -- with H = 0 no step is kept
     ∷ after 0 "PUSHIMM 40 STOP" maxLimit 0 0 (none 0 ∷ none 15 ∷ zeros 16 6 ∷ [])
-    -- records made by hand, at a JUMP: what they say is told, each tag among it; the newest of two that wrote cell 1, and the older one for cell 0
-    ∷ given (pa1 ∷ wrote ∷ []) 2 1 (names 1 1 0 (place 44 0) 3 1 ∷ none 0 ∷ zeros 2 6 ∷ [])
-    ∷ given (float0 ∷ ch1 ∷ wroteBoth ∷ jumped ∷ pa1 ∷ wrote ∷ 0 ∷ []) 6 3 (names 0 3 0 (place 44 0) 1 0x40000000 ∷ names 1 1 0 (place 44 0) 3 1 ∷ [])
-    ∷ given (pa1 ∷ wrote ∷ float0 ∷ ch1 ∷ wroteBoth ∷ jumped ∷ []) 6 3 (names 0 2 0 (place 44 0) 1 0x40000000 ∷ names 1 2 0 (place 44 0) 4 65 ∷ [])
+    -- records made by hand, at a JUMP, which writes no cell: what they say is told, FLOAT, PA and CH; the newest of two that wrote cell 1, and the older one for cell 0
+    ∷ given (pa1 ∷ wrote ∷ []) 2 1 (names 1 1 0 (place 44 0) 3 1 ∷ none 0 ∷ zeros 3 6 ∷ [])
+    ∷ given (float0 ∷ ch1 ∷ wroteTwo ∷ jumped ∷ pa1 ∷ wrote ∷ 0 ∷ []) 6 3 (names 0 3 0 (place 44 0) 1 0x40000000 ∷ names 1 1 0 (place 44 0) 3 1 ∷ [])
+    ∷ given (pa1 ∷ wrote ∷ float0 ∷ ch1 ∷ wroteTwo ∷ jumped ∷ []) 6 3 (names 0 2 0 (place 44 0) 1 0x40000000 ∷ names 1 2 0 (place 44 0) 4 65 ∷ [])
+    -- a record of cells 0 and 2 says nothing of cell 1
+    ∷ given (pa1 ∷ wrote ∷ float0 ∷ ch2 ∷ wroteTwo ∷ []) 5 2
+    (names 0 1 0 (place 44 0) 1 0x40000000 ∷ names 1 2 0 (place 44 0) 3 1 ∷ names 2 1 0 (place 44 0) 4 65 ∷ [])
+    -- "the instruction" is that of the program handed in, also where its place is 0: STOP
+    ∷ givenUnder "STOP" (pa1 ∷ wrote ∷ []) 2 1 (names 1 1 0 (place 0 0) 3 1 ∷ [])
     -- places that are not in use are not looked at
     ∷ given (jumped ∷ pa1 ∷ wrote ∷ []) 1 1 (none 0 ∷ none 1 ∷ [])
     ∷ given (pa1 ∷ wrote ∷ []) 0 0 (none 1 ∷ [])
     -- "10 as in i)", before 6: a broken state; an ill-formed record below one that wrote the cell, and above it; a kept number that is not that of the records
-    ∷ given (pa1 ∷ wrote ∷ []) 3 1 (zeros 1 10 ∷ zeros 2 10 ∷ [])
+    ∷ given (pa1 ∷ wrote ∷ []) 3 1 (zeros 1 10 ∷ zeros 3 10 ∷ [])
     ∷ given (0x8010000000000000 ∷ pa1 ∷ wrote ∷ []) 3 2 (zeros 1 10 ∷ zeros 4294967296 10 ∷ [])
-    ∷ given (pa1 ∷ wrote ∷ 0x8000000000000001 ∷ []) 3 2 (zeros 1 10 ∷ zeros 2 10 ∷ [])
-    ∷ given (pa1 ∷ wrote ∷ jumped ∷ []) 3 1 (zeros 1 10 ∷ zeros 2 10 ∷ [])
-    ∷ given (pa1 ∷ wrote ∷ jumped ∷ []) 3 3 (zeros 1 10 ∷ zeros 2 10 ∷ [])
+    ∷ given (pa1 ∷ wrote ∷ 0x8000000000000001 ∷ []) 3 2 (zeros 1 10 ∷ zeros 3 10 ∷ [])
+    ∷ given (pa1 ∷ wrote ∷ jumped ∷ []) 3 1 (zeros 1 10 ∷ zeros 3 10 ∷ [])
+    ∷ given (pa1 ∷ wrote ∷ jumped ∷ []) 3 3 (zeros 1 10 ∷ zeros 3 10 ∷ [])
     ∷ []
 
 pub all-answered : every questions ≡ true

@@ -26,7 +26,8 @@ namedStep table back step old =
       before = record { bits = cellBits old; tag = cellTag old };
     }
 
--- what is told by the place of that cell among a record's cell places, of which each has another address; by the older records where there is none
+-- what is told by the place of that cell among a record's cell places, or by the older records where there is none; a well-formed record has one at most, and of more
+-- the last would tell
 abbrev pub toldBy : (cell : ℕ) → List ℕ → (told : ℕ → Why) → (older : Why) → Why
 toldBy cell [] told older = older
 toldBy cell (q ∷ qs) told older = toldBy cell qs told (cond (eqb (cellAddress q) cell) (told q) older)

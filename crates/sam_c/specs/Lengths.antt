@@ -8,6 +8,7 @@ use lib.ListN.{replicate}
 use lib.Dec.{eqb}
 use Rattle.rules.specs.Lists.{text, every, same}
 use Rattle.rules.specs.SavedState as SavedState
+use Rattle.rules.specs.Records as Records
 use Rattle.rules.specs.Why as Why
 use Rattle.rules.specs.Sizes.{maxProgram, maxHistory, maxOutput, maxLimit, listingSize, imageSize, stateSize}
 use Rattle.rules.specs.Table.{Program, program}
@@ -60,6 +61,13 @@ runs number limit registers told after =
 abbrev asks : (number cell registers : ℕ) (told after : List ℕ) → Bool
 asks number cell registers told after =
     let a = whyCall (programOf "STOP") cell (old registers) (memory (old 2) (old 2) (old 3) (old 2)) told in
+    eqb (a .number) number && same (a .told) after
+
+-- a why of that cell on a sound machine of two cells, whose one record, at a JUMP, has an old PA 1 in cell 1
+abbrev tells : (number cell : ℕ) (after : List ℕ) → Bool
+tells number cell after =
+    let m = memory (8 ∷ 9 ∷ []) (0 ∷ 1 ∷ []) (0x002C000000040000 ∷ 0x8000000000400000 ∷ []) (72 ∷ 5 ∷ []) in
+    let a = whyCall (programOf "JUMP 0") cell (2 ∷ 2 ∷ 1 ∷ 1 ∷ 1 ∷ 1 ∷ 2 ∷ 1 ∷ 1 ∷ []) m (old 6) in
     eqb (a .number) number && same (a .told) after
 
 -- a save of a machine with so many registers into an image of so many bytes
@@ -120,6 +128,10 @@ lengths =
     ∷ asks 10 0 9 (old 6) (zeros 6)
     ∷ asks 10 0 8 (old 6) (zeros 6)
     ∷ asks 10 18446744073709551615 10 (old 6) (zeros 6)
+    -- found, steps back, PC, the table's place, old tag, old bits; no kept step; and 6
+    ∷ tells 0 1 (1 ∷ 1 ∷ 0 ∷ 0x2C00000000 ∷ 3 ∷ 1 ∷ [])
+    ∷ tells 0 0 (zeros 6)
+    ∷ tells 6 2 (zeros 6)
     -- "Refusals for save: 31, then 10." (02 k): a told of another length before both, and registers of another length in 10's place; "Refused writers .. zero one
     -- of right length, .. and tell length 0"
     ∷ saves 31 8 stateSize (old 2) (old 2) (zeros stateSize)
@@ -138,5 +150,5 @@ lengths =
     ∷ []
 
 pub all-lengths : every lengths ≡ true
-unfolding lengths ofLength notRegistersSaved holds check Why.why SavedState.save SavedState.stateBits SavedState.registersIn SavedState.columnIn SavedState.bytesIn SavedState.entry SavedState.load
+unfolding lengths ofLength notRegistersSaved holds check Records.cutDown Why.why SavedState.save SavedState.stateBits SavedState.registersIn SavedState.columnIn SavedState.bytesIn SavedState.entry SavedState.load
 all-lengths = refl

@@ -38,7 +38,7 @@ formed-readable n count size low (w ∷ ws) h =
       formed-readable n count size low ws (and-right (formedRecord n count w) (formedRecords n count ws) h),
     )
 
--- ---- the answers: no places are asked for, so that none of the newest records stay
+-- ---- the answers: `stay` is 0, since a why does not ask for the places below
 
 pub why-unsound : (p : Program) (r : Registers) (m : Memory) (cell : ℕ) → sound p r m ≡ false → why p cell r m ≡ NotNamed HistoryBroken
 why-unsound p r m cell h = why-broken p cell r m (not-sound p r m h)

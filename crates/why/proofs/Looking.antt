@@ -10,7 +10,7 @@ use lib.Seq.{take-suc, getD-drop, getD-take}
 use borrow.Author.Tests.{ltb-true, ltb-false, eq-eqb, ne-eqb}
 use Rattle.rules.specs.Lists.{part}
 use Rattle.rules.specs.Places.{mark, cellAddress, stepPc, stepCount}
-use Rattle.rules.specs.Records.{HistoryRecord, recordAt, cutDown}
+use Rattle.rules.specs.Records.{recordAt, cutDown}
 use Rattle.rules.specs.Why.{namedStep, toldBy, newest}
 use Rattle.rules.specs.declared.NamedStep.{NamedStep}
 use Rattle.rules.specs.declared.Why.{Why}

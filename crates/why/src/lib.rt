@@ -14,6 +14,9 @@ ghost use Rattle.rules.specs.Records.{cutDown};
 ghost use Rattle.rules.specs.Why.{namedStep, newest, why};
 ghost use Rattle.why.specs.Readable.{AllReadable};
 
+// A why asks nothing of the places that lie below some newest records.
+const STAY: usize = 0;
+
 // The step of a step place, so many steps back, with what the cell held before: `old` is the cell's place in its record.
 fn named_step(table: &[u64], back: usize, step: u64, old: u64) -> NamedStep
     requires { ⌜ stepPc step < length (now table) ⌝ }
@@ -72,7 +75,7 @@ pub fn why(
     if !sound {
         return Why::NotNamed(WhyRefusal::HistoryBroken);
     }
-    let judged = records::judge(history, r.used, r.n, length, r.kept, 0);
+    let judged = records::judge(history, r.used, r.n, length, r.kept, STAY);
     if !judged.passes {
         return Why::NotNamed(WhyRefusal::HistoryBroken);
     }
