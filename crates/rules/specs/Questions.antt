@@ -100,19 +100,18 @@ wroteTwo = 0x8000040000800000
 
 unfoldable pub questions : List Bool
 questions =
-    -- the complaint, asked after the trial: the STOREOFF, with the 40 tenths before it. The cell at SP was written by the PUSHIMMF, and none wrote those above
-    complaint maxLimit 0 0 (names 0 1 2 (storeOff 0) 0 40 ∷ names 1 2 1 (place 2 0x40200000) 0 0 ∷ none 2 ∷ none 15 ∷ [])
+    -- the complaint, asked after the trial: the STOREOFF, with the 40 tenths before it. The cell at SP was written by the PUSHIMMF, and none wrote those above; "6 for a cell
+    -- not below N"
+    complaint maxLimit 0 0
+    (names 0 1 2 (storeOff 0) 0 40 ∷ names 1 2 1 (place 2 0x40200000) 0 0 ∷ none 2 ∷ none 15 ∷ zeros 16 6 ∷ zeros 4294967296 6 ∷ zeros 18446744073709551615 6 ∷ [])
     -- before the trial, and once it is taken back: the PUSHIMM
     ∷ complaint 1 0 0 (names 0 1 0 (pushImm 40) 0 0 ∷ none 1 ∷ [])
     ∷ complaint maxLimit 0 1 (names 0 2 0 (pushImm 40) 0 0 ∷ names 1 1 1 (place 2 0x40200000) 0 0 ∷ [])
     ∷ complaint maxLimit 0 3 (none 0 ∷ none 1 ∷ [])
     -- "the newest kept step": what is forgotten is not named
-    ∷ complaint maxLimit 1 0 (names 0 1 2 (storeOff 0) 0 40 ∷ names 1 2 1 (place 2 0x40200000) 0 0 ∷ [])
     ∷ complaint maxLimit 1 1 (none 0 ∷ names 1 1 1 (place 2 0x40200000) 0 0 ∷ [])
     ∷ complaint maxLimit 2 0 (names 0 1 2 (storeOff 0) 0 40 ∷ none 1 ∷ [])
     ∷ complaint maxLimit 3 0 (none 0 ∷ none 1 ∷ [])
-    -- "6 for a cell not below N"
-    ∷ complaint maxLimit 0 0 (zeros 16 6 ∷ zeros 4294967296 6 ∷ zeros 18446744073709551615 6 ∷ [])
     -- a cell written three times, the second time with what it held; jumps and STOP write none
     ∷ after 16 "PUSHIMM 7 PUSHIMM 7 STOREOFF 0 JUMP 4 PUSHIMM 9 STOREOFF 0 STOP" 4 0 0 (names 0 2 2 (storeOff 0) 0 7 ∷ names 1 3 1 (pushImm 7) 0 0 ∷ [])
     ∷ after 16 "PUSHIMM 7 PUSHIMM 7 STOREOFF 0 JUMP 4 PUSHIMM 9 STOREOFF 0 STOP" maxLimit 0 0

@@ -1,5 +1,6 @@
 -- Calls for C that are lent a `told` or registers of another length, beside what else they are refused for: worked by hand from document 01's order of
--- refusals and its sentence on refused writers, as one list, and the one statement that each holds; antt computes it. Assumes nothing.
+-- refusals and its sentence on refused writers, as one list, and the one statement that each holds; antt computes it. Of a why the six values are among it too. Assumes
+-- nothing.
 use Prim.Native.Nat.{ℕ, _+_}
 use mathlib.Core.Path.{_≡_, refl}
 use mathlib.Core.Bool.{Bool, true, _&&_}
