@@ -753,14 +753,18 @@ def kept_record_corners(script):
         script.kept_records[len(records), sum(map(len, records)), kept, k, number] += 1
 
 
-def full_corners(script):
+def full_machines(script):
     """As many records as there can be, all well formed or one not, with their number kept or one less."""
     all_places = [forgets.WELL_FORMED[0]] * HISTORY_LIMIT
     for at, kept in product((None, *forgets.ODD_PLACES), (HISTORY_LIMIT, HISTORY_LIMIT - 1)):
         state = forgets.machine(all_places, kept, unused=0)
         if at is not None:
             state.history[at] |= 1
-        lent = LentMachine(script, forgets.PROGRAM, state)
+        yield at, kept, LentMachine(script, forgets.PROGRAM, state)
+
+
+def full_corners(script):
+    for at, kept, lent in full_machines(script):
         for k in forgets.NUMBERS_OF_FULL:
             number = lent.forget(k)
             script.full_histories[at, kept, k, number] += 1
@@ -898,18 +902,12 @@ def asked_odd_corners(script):
 
 
 def asked_kept_corners(script):
-    """Kept numbers that are those of the records, and every other; then as many records as there can be, all well
-    formed or one not, with their number kept or one less."""
+    """Kept numbers that are those of the records, and every other; then full histories."""
     for records in forgets.KEPT_RECORDS:
         for kept, cell in product(forgets.kept_numbers(records), whys.KEPT_ASKED):
             lent = LentMachine(script, forgets.PROGRAM, forgets.machine(records, kept))
             tried_why(script, ("kept", len(records), sum(map(len, records)), kept), lent, cell)
-    all_places = [forgets.WELL_FORMED[0]] * HISTORY_LIMIT
-    for at, kept in product((None, *forgets.ODD_PLACES), (HISTORY_LIMIT, HISTORY_LIMIT - 1)):
-        state = forgets.machine(all_places, kept, unused=0)
-        if at is not None:
-            state.history[at] |= 1
-        lent = LentMachine(script, forgets.PROGRAM, state)
+    for at, kept, lent in full_machines(script):
         for cell in whys.FULL_ASKED:
             tried_why(script, ("full", at, kept), lent, cell)
 

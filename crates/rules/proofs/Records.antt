@@ -18,23 +18,13 @@ use Rattle.rules.proofs.Formed.{WellFormed, Formed}
 
 -- ---- what a well-formed record tells
 
--- the addresses of its cells lie below N
-formed-below : (n count low : ℕ) (l : List ℕ) → formedCells n count low l ≡ true → (k : ℕ) → k < length l → cellAddress (getD l k 0) < n
-formed-below n count low [] h k kl = absurd (let z : ⊥ = omega arith in z)
-formed-below n count low (q ∷ qs) h zero kl =
-    ltb-true _ _ (every-at (cellTests n count low q) 3 (and-left (formedCell n count low q) (formedCells n count (cellAddress q + 1) qs) h))
-formed-below n count low (q ∷ qs) h (suc k) kl =
-    formed-below n count (cellAddress q + 1) qs (and-right (formedCell n count low q) (formedCells n count (cellAddress q + 1) qs) h) k
-    (omega arith)
-
--- and none of them has a step place's mark
-formed-unmarked : (n count low : ℕ) (l : List ℕ) → formedCells n count low l ≡ true → (k : ℕ) → k < length l → mark (getD l k 0) ≡ 0
-formed-unmarked n count low [] h k kl = absurd (let z : ⊥ = omega arith in z)
-formed-unmarked n count low (q ∷ qs) h zero kl =
-    eqb-true _ _ (every-at (cellTests n count low q) 0 (and-left (formedCell n count low q) (formedCells n count (cellAddress q + 1) qs) h))
-formed-unmarked n count low (q ∷ qs) h (suc k) kl =
-    formed-unmarked n count (cellAddress q + 1) qs (and-right (formedCell n count low q) (formedCells n count (cellAddress q + 1) qs) h) k
-    (omega arith)
+-- each of its cell places is well formed, with an address of at least some number
+formed-each : (n count low : ℕ) (l : List ℕ) → formedCells n count low l ≡ true → (k : ℕ) → k < length l
+    → (least : ℕ) × (formedCell n count least (getD l k 0) ≡ true)
+formed-each n count low [] h k kl = absurd (let z : ⊥ = omega arith in z)
+formed-each n count low (q ∷ qs) h zero kl = (low, and-left (formedCell n count low q) (formedCells n count (cellAddress q + 1) qs) h)
+formed-each n count low (q ∷ qs) h (suc k) kl =
+    formed-each n count (cellAddress q + 1) qs (and-right (formedCell n count low q) (formedCells n count (cellAddress q + 1) qs) h) k (omega arith)
 
 -- a step place's cells lie within the places below it
 pub count-within : (n count below q : ℕ) → formedStep n count below q ≡ true → stepCount q ≤ below
@@ -50,8 +40,11 @@ module _ (n count : ℕ) (w : HistoryRecord) (formed : formedRecord n count w �
   pub step-marked : mark (w .place) ≡ 1
   step-marked = eqb-true _ _ (every-at (stepTests n count (w .below) (w .place)) 0 step-formed)
 
+  -- its cells have no step place's mark, and their addresses lie below N
   pub cells-unmarked : (k : ℕ) → k < length (w .cells) → mark (getD (w .cells) k 0) ≡ 0
-  cells-unmarked = formed-unmarked n count 0 (w .cells) cells-formed
+  cells-unmarked k kl =
+      let each = formed-each n count 0 (w .cells) cells-formed k kl in
+      eqb-true _ _ (every-at (cellTests n count (each .0) (getD (w .cells) k 0)) 0 (each .1))
 
   pub old-pc-below : stepPc (w .place) < count
   old-pc-below = ltb-true _ _ (every-at (stepTests n count (w .below) (w .place)) 2 step-formed)
@@ -60,7 +53,9 @@ module _ (n count : ℕ) (w : HistoryRecord) (formed : formedRecord n count w �
   cells-within = count-within n count (w .below) (w .place) step-formed
 
   pub addresses-below : (k : ℕ) → k < length (w .cells) → cellAddress (getD (w .cells) k 0) < n
-  addresses-below = formed-below n count 0 (w .cells) cells-formed
+  addresses-below k kl =
+      let each = formed-each n count 0 (w .cells) cells-formed k kl in
+      ltb-true _ _ (every-at (cellTests n count (each .0) (getD (w .cells) k 0)) 3 (each .1))
 
 -- ---- records, each of them well formed
 
@@ -279,14 +274,11 @@ module _ (n count : ℕ) where
       × (formedCells n count 0 (part (i - stepCount (getD h i 0)) (stepCount (getD h i 0)) h) ≡ true)
   unfolding cutDown
   steps-top i h f =
-      let q : ℕ = getD h i 0 in
-      let cells : List ℕ = part (i - stepCount q) (stepCount q) h in
       let top : formedRecord n count (recordAt i h) ≡ true =
-      and-left (formedRecord n count (recordAt i h)) (formedRecords n count (cutDown (stepCount q) i h)) f in
-      let first : formedStep n count i q ≡ true = and-left (formedStep n count i q) (formedCells n count 0 cells) top in (
+      and-left (formedRecord n count (recordAt i h)) (formedRecords n count (cutDown (stepCount (getD h i 0)) i h)) f in (
         cells-within n count (recordAt i h) top,
-        eqb-true (mark q) 1 (every-at (stepTests n count i q) 0 first),
-        and-right (formedStep n count i q) (formedCells n count 0 cells) top,
+        step-marked n count (recordAt i h) top,
+        cells-formed n count (recordAt i h) top,
       )
 
   -- and those below it
