@@ -5,7 +5,7 @@
 #include <stddef.h>
 #include <stdint.h>
 
-/* Bytes to a table: assemble and unpack. */
+/* Bytes to a table: assemble, unpack and translate. */
 typedef uint32_t reading_call(const uint8_t *, size_t, uint64_t *, size_t, uint64_t *, size_t);
 
 /* A table to bytes: list and pack. */

@@ -21,10 +21,12 @@ TEXT_BYTES = 20480
 IMAGE_BYTES = 4866
 STATE_BYTES = 4638
 ASSEMBLE_TOLD = 4  # values that assemble tells: length, place, line, column
+TRANSLATE_TOLD = 2  # values that translate tells: length, depth
 WHY_TOLD = 6  # values that why tells: found, steps back, PC, the table's place, old tag, old bits
 # The calls that write an output: its length, and that of told.
 WRITERS = {
     "assemble": (PLACES, ASSEMBLE_TOLD),
+    "translate": (PLACES, TRANSLATE_TOLD),
     "unpack": (PLACES, 1),
     "list": (TEXT_BYTES, 1),
     "pack": (IMAGE_BYTES, 1),
@@ -133,6 +135,10 @@ class Script:
         self.asked_cells = Counter()  # (HALT, where it lies, how many kept steps wrote it) of each why that is done
         self.back_to_named = Counter()  # (steps back, whether the cell changed) of each named step that was taken back
         self.why_tolds = Counter()  # (told's length, number and found of the why alone) of each why with another told
+        self.formulas = Counter()  # (what is tried, .., number, length, depth) of each formula
+        self.drawn_formulas = Counter()  # (kind, number) of each formula that was drawn
+        self.formula_tables = Counter()  # (places, number with 1,024) of each formula with another table
+        self.formula_runs = Counter()  # (what is short, whether there is a history, values between, number) of each run
         self.wrong_tolds = Counter()  # (word, told's length, output's length, number of the input alone) of writers
         self.register_lengths = Counter()  # (line, number with nine, length, number) of each with another length
         self.resets = Counter()  # (length of the registers, cells, tags, history places, output, number) of each reset
@@ -184,6 +190,14 @@ class Script:
         table = marked(places, 8)
         number, told = self.write(word, lambda output: sam.unpack(image, output), table, told_length)
         self.call_reading(word, image, table, told, number)
+        return number, table, told
+
+    def translate(self, formula, places=PLACES, told_length=TRANSLATE_TOLD):
+        table = marked(places, 8)
+        number, told = self.write("translate", lambda output: sam.translate(formula, output), table, told_length)
+        if places != PLACES and told_length == TRANSLATE_TOLD:
+            self.formula_tables[places, sam.translate(formula, [0] * PLACES)[0]] += 1
+        self.call_reading("translate", formula, table, told, number)
         return number, table, told
 
     def call_reading(self, name, data, table, told, number):

@@ -5,16 +5,18 @@ from itertools import chain, product
 
 import depths
 import forgets
+import formulas
 import panel
 import sam
 import saves
 import teaching
 import whys
-from calls import ASSEMBLE_TOLD, IMAGE_BYTES, PLACES, REGISTERS, STATE_BYTES, TEXT_BYTES, WHY_TOLD, WRITERS, LentMachine
+from calls import ASSEMBLE_TOLD, IMAGE_BYTES, PLACES, REGISTERS, STATE_BYTES, TEXT_BYTES, TRANSLATE_TOLD, WHY_TOLD
+from calls import WRITERS, LentMachine
 from dwells import ADDRESS_CELLS, CHARACTER_CELLS, FLOAT_CELLS, INTEGER_CELLS, KINDS_OF_CELLS, PLAIN_CELLS, any_cell
 from machines import copied, halted, single, stacked
-from programs import CONVERSIONS, FLOAT_EDGES, FTOI_EDGES, INTEGER_EDGES, ITOF_EDGES, SUMS, TWO_FLOATS, TWO_INTEGERS
-from programs import any_character, any_integer, any_operand, any_pattern, any_program
+from programs import CONVERSIONS, FLOAT_EDGES, FTOI_EDGES, INTEGER_EDGES, ITOF_EDGES, LEAST, SUMS, TWO_FLOATS
+from programs import TWO_INTEGERS, any_character, any_integer, any_operand, any_pattern, any_program
 from sam.actions import CH, FLOAT, INT, MA, PA
 from sam.image import CODE_WIDTH, COUNT_WIDTH, OPERAND_WIDTH
 from sam.machine import CELL_LIMIT, HISTORY_LIMIT, OUTPUT_LIMIT, RUN_LIMIT, cell_place, cell_sound, step_place
@@ -1798,6 +1800,145 @@ def plain_case(chooser, script):
         plain_image(chooser, script)
 
 
+# ---- formulas
+
+
+def tried_formula(script, what, text):
+    """(formula, number, table, told); what is tried is counted with the answer."""
+    formula = text.encode("latin-1")
+    number, table, told = script.translate(formula)
+    script.formulas[(what, formulas.label(text), number, *told)] += 1
+    return formula, number, table, told
+
+
+def formula_machine(script, program, depth, cells, h, is_tight):
+    """These cells below SP and an output that was written to, with room for this depth, or for one less."""
+    sp = len(cells)
+    n = sp + depth + (not is_tight)
+    lent = LentMachine(script, program, marked_state(n, n, h, 3))
+    assert lent.reset() == 0
+    for address, cell in enumerate(cells):
+        lent.state.set_cell(address, *cell)
+    lent.state.output[:2] = b"\x41\xff"
+    lent.state.registers = replace(lent.state.registers, sp=sp, written=2)
+    lent.lend()
+    return lent
+
+
+# What a run has one too few of, and the number that it meets then, or 5 before it.
+SHORT_OF = {"nothing": 0, "cells": 7, "places": 8, "steps": 50}
+
+
+def run_formula(script, formula, table, told, values, between=(), has_history=False, short_of="nothing"):
+    """Just so much room, history and limit as it needs, or one less of one of them. The number on top is held to the
+    evaluator's, and the cells below to what they were."""
+    length, depth = told
+    cells = [*[(INT, value % WORD) for value in values], *between]
+    h = (2 * length - 1 - (short_of == "places")) * has_history
+    lent = formula_machine(script, sam.Program(table, length), depth, cells, h, short_of == "cells")
+    number = lent.run(length - (short_of == "steps"))
+    value = sam.evaluate(formula, values)
+    allowed = {SHORT_OF[short_of]} if value is not None else {5} if short_of == "nothing" else {5, SHORT_OF[short_of]}
+    assert number in allowed, (formula, values, short_of, number)
+    assert lent.state.cells(0, len(cells)) == cells, formula
+    if number == 0:
+        assert lent.state.registers.sp == len(cells) + 1
+        assert lent.state.cell(len(cells)) == (INT, value % WORD), (formula, values, value)
+    script.formula_runs[short_of, has_history, bool(between), number] += 1
+
+
+def accepted_corners(script):
+    """Each is run with every kind of room, the long ones with enough of it."""
+    values = [7, 2, -3, 40, LEAST, 5, -1, 11]
+    between = [(FLOAT, 0x40200000), (CH, 127), (MA, WORD - 1)]
+    for text in formulas.ACCEPTED:
+        formula, _, table, told = tried_formula(script, "accepted", text)
+        for short_of, has_history in product(SHORT_OF, (False, True)):
+            if short_of != "places" or has_history:
+                run_formula(script, formula, table, told, values, between, has_history, short_of)
+    for text, has_history in product(formulas.LONG_ACCEPTED, (False, True)):
+        formula, _, table, told = tried_formula(script, "accepted", text)
+        run_formula(script, formula, table, told, values, (), has_history)
+
+
+def worked_corners(script):
+    """The numbers by hand."""
+    for text, values, value in formulas.WORKED:
+        formula, _, table, told = tried_formula(script, "worked", text)
+        assert sam.evaluate(formula, formulas.filled(values)) == value, text
+        run_formula(script, formula, table, told, formulas.filled(values))
+        run_formula(script, formula, table, told, formulas.filled(values), [(PA, told[0])], True)
+
+
+def refused_formula_corners(script):
+    """At a token, whatever is behind it; at the end; refusals that meet; and every forbidden byte."""
+    for text, _ in formulas.refused_texts():
+        tried_formula(script, "refused", text)
+    for text in formulas.UNENDED:
+        tried_formula(script, "unended", text)
+    for met, texts in formulas.MEETING.items():
+        for text in texts:
+            tried_formula(script, met, text)
+    for byte, (before, behind) in product(formulas.FORBIDDEN_BYTES, formulas.AROUND):
+        tried_formula(script, "byte", before + chr(byte) + behind)
+    for text in formulas.TOO_LONG:
+        tried_formula(script, "too long", text)
+
+
+def short_corners(script):
+    """Every one of a few bytes."""
+    for text in formulas.SHORT_TEXTS:
+        formula, number, table, told = tried_formula(script, "short", text)
+        if number == 0:
+            run_formula(script, formula, table, told, [5] * len(formulas.NAMES))
+
+
+def formula_length_corners(script):
+    """A table and a told of another length, with a formula that is done and with each refusal: 31 before them all."""
+    for text in formulas.JUDGED.values():
+        for places in formulas.OTHER_PLACES:
+            script.translate(text.encode(), places)
+        for lengths in wrong_tolds("translate"):
+            script.translate(text.encode(), *lengths)
+
+
+def formula_corners(script):
+    for corners in (accepted_corners, worked_corners, refused_formula_corners, short_corners, formula_length_corners):
+        corners(script)
+
+
+def any_formula(chooser):
+    """What kind it is, and the formula."""
+    tree = formulas.any_tree(chooser, chooser.randrange(1, 8))
+    kind = chooser.randrange(40)
+    if kind < 9:
+        return "tree", formulas.text_of(chooser, tree)
+    if kind < 16:
+        return "more brackets", formulas.text_of(chooser, tree, chooser.choice([0.1, 0.3, 0.7]))
+    if kind < 26:
+        return "walked", formulas.walked(chooser, chooser.choice([3, 8, 20, 60, 200]))
+    if kind < 34:
+        whole = formulas.text_of(chooser, tree) if chooser.randrange(2) else formulas.walked(chooser, 30)
+        return "damaged", formulas.damaged(chooser, whole)
+    if kind < 37:
+        return "long", formulas.long_text(chooser)
+    if kind < 39:
+        return "long and damaged", formulas.damaged(chooser, formulas.long_text(chooser))
+    return "wide", formulas.wide_text(chooser)
+
+
+def formula_case(chooser, script):
+    """Translated, and run where it is accepted, with any values and most often just the room it needs."""
+    kind, formula = any_formula(chooser)
+    number, table, told = script.translate(formula, any_size(chooser, PLACES), any_told(chooser, TRANSLATE_TOLD))
+    script.drawn_formulas[kind, number] += 1
+    if number == 0:
+        has_history = chooser.randrange(2) == 0
+        short_of = chooser.choice(["nothing"] * 6 + ["cells", "steps", "places" if has_history else "cells"])
+        between = formulas.any_between(chooser, told[0])
+        run_formula(script, formula, table, told, formulas.any_values(chooser), between, has_history, short_of)
+
+
 # What a family has before its cases are drawn.
 CORNERS = {
     "text": text_corners,
@@ -1809,6 +1950,7 @@ CORNERS = {
     "dwell": dwell_corners,
     "save": saving_corners,
     "depths": depth_corners,
+    "formula": formula_corners,
     "instruction": instruction_corners,
     "plain": plain_corners,
 }
@@ -1826,5 +1968,6 @@ FAMILIES = {
     "dwell": (dwell_case, 6),
     "save": (save_case, 3),
     "depths": (depth_case, 3),
+    "formula": (formula_case, 4),
     "plain": (plain_case, 4),
 }

@@ -1,7 +1,8 @@
 #!/usr/bin/env python3
 """Compares every call of the C library, and the console program, with the interpreter in sam/, byte for byte.
 
-    compare.py [--seed S] [--cases C] [--only FAMILY,..] [--console COMMAND] [--save FILE] DRIVER
+    compare.py [--seed S] [--cases C] [--only FAMILY,..] [--console COMMAND] [--formula-console COMMAND] [--save FILE]
+        DRIVER
 
 DRIVER and COMMAND are commands: a program, or an emulator and a program. Exit status 1 where anything differs, a
 number of the documents was never given back, a fault of a source was never in a first line or never in a later one, a
@@ -12,8 +13,9 @@ number that request g speaks of was never given to a call or its steps never all
 record or a WRITECH that request h speaks of was never met, a forget that request i speaks of was never made or never
 refused or the room it gained never used, a depth list that request j speaks of was never accepted or never refused or a
 program with a list never played, a state that request k speaks of was never saved, never loaded or never refused or a
-session never carried on, a cell that request l speaks of was never asked, never told of or never refused, or a told or
-registers of another length were never given to a call that would be done or refused besides.
+session never carried on, a cell that request l speaks of was never asked, never told of or never refused, a formula
+that request m speaks of was never translated, never run or never refused, or a told or registers of another length were
+never given to a call that would be done or refused besides.
 """
 
 import argparse
@@ -26,6 +28,7 @@ from itertools import combinations, permutations, product
 
 import depths
 import forgets
+import formulas
 import panel
 import sam
 import saves
@@ -33,7 +36,7 @@ import teaching
 import whys
 from calls import REGISTERS, STATE_BYTES, WHY_TOLD, Script
 from cases import ALLOWED_KEPT, ALLOWED_SIZES, BROKEN_KEPT, CALLS, CORNERS, FAMILIES, OTHER_LENGTHS, REFUSED_SIZES
-from cases import BREAKS, DOUBLE_WORD, JUDGED_STATES, break_record, made_record, other_tolds, wrong_tolds
+from cases import BREAKS, DOUBLE_WORD, JUDGED_STATES, any_formula, break_record, made_record, other_tolds, wrong_tolds
 from decimals import ALL_MARKS, ILL_FORMED, TOO_LONG
 from dwells import KINDS_OF_CELLS, LONGEST, REFUSED_CELLS, SHORTEST, first_of
 from programs import CONVERSIONS, FTOI_ENDS, GREATEST, INFINITIES, INTEGER_TIES, LEAST, MINUS_ZERO, NANS, SUMS, ZEROS
@@ -43,7 +46,7 @@ from sam.machine import OUTPUT_LIMIT, RUN_LIMIT
 from sam.table import WORD
 from sources import any_source, every_refusal
 
-ALL_NUMBERS = [*range(0, 13), 14, *range(21, 32), 33, *range(41, 46), 50, *range(60, 68)]
+ALL_NUMBERS = [*range(0, 13), 14, *range(21, 32), 33, *range(41, 46), 50, *range(60, 68), *range(70, 74)]
 FAULTS = [*range(22, 31), 33]  # refusals of a source that have a line
 FLOAT_TESTS = [  # what request b changed
     *[("EQUAL", ((FLOAT, zero), (FLOAT, other)), 0) for zero, other in permutations(ZEROS)],
@@ -94,6 +97,7 @@ ALLOWED_BY_BACK = [(8, 3, 1), (8, 3, 3), (8, 2, 1), (8, 2, 2), (8192, 7999, 7999
 # The numbers that the input of each writer is given where every length is right.
 INPUT_NUMBERS = {
     "assemble": [0, 21, *FAULTS],
+    "translate": list(formulas.JUDGED),
     **dict.fromkeys(["list", "pack", "save", "plain_pack"], [0, 10]),
     **dict.fromkeys(["unpack", "plain_unpack"], [0, *range(41, 46)]),
 }
@@ -387,6 +391,25 @@ ASKED_CELLS = list(product((0, 1), ("below SP", "at SP", "above SP"), (0, 1, 2))
 # Steps back of a step that was named and taken back, and whether the cell held another thing before.
 BACK_TO_NAMED = list(product((1, 2, 3), (False, True)))
 WHY_NUMBERS = [(0, 1), (0, 0), (6, 0), (10, 0)]  # number and found
+# What request m added: what a run of a formula was short of, whether there is a history, whether values lie between
+# the eight cells and SP, and the number.
+FORMULA_RUNS = [
+    *product(["nothing"], (False, True), (False, True), (0, 5)),
+    *product(["cells"], (False, True), (False, True), (7,)),
+    *product(["steps"], (False, True), (False, True), (50,)),
+    *product(["places"], (True,), (False, True), (8,)),
+    *[(short_of, True, True, 5) for short_of in ("cells", "places", "steps")],
+]
+# A kind of formula that was drawn, and its numbers.
+DRAWN_FORMULAS = {
+    "tree": [0, 31],
+    "more brackets": [0, 31],
+    "walked": [0, 31, 70, 71, 72, 73],
+    "damaged": [0, 31, 70, 71, 72],
+    "long": [0, 28],
+    "long and damaged": [28, 71],
+    "wide": [0],
+}
 CUT = 400  # characters of a line that a difference shows
 
 
@@ -431,7 +454,7 @@ def report(title, setting, expected, answered):
 def setting_of(lines, index):
     """The lines that lead to this call: since the last `program`, which begins a machine, or the call alone."""
     start = index
-    if not lines[index][0].startswith(("assemble ", "unpack ")):
+    if not lines[index][0].startswith(("assemble ", "unpack ", "translate ")):
         while start > 0 and not lines[start][0].startswith("program "):
             start -= 1
     return [line for line, _ in lines[start : index + 1]]
@@ -483,6 +506,45 @@ def compare_console(command, seed, count):
             return False
     print(
         f"console: {len(sources)} sources alike, {endings['end']} run, {endings['out']} of them with output, and "
+        f"{endings['refused']} refused"
+    )
+    return True
+
+
+def pushes(values):
+    """The first line that the console of formulas reads: a source that pushes what a to h hold."""
+    return "".join(f"PUSHIMM {value} " for value in values).encode() + b"STOP\n"
+
+
+def console_formulas(seed, count):
+    """Formulas by hand, of each refusal some, and drawn ones, with what a to h hold."""
+    chooser = random.Random(seed)
+    worked = [(text, formulas.filled(values)) for text, values, _ in formulas.WORKED]
+    refused = [text for texts in formulas.REFUSED.values() for text in texts[:12]]
+    accepted = [*formulas.ACCEPTED, *formulas.LONG_ACCEPTED]
+    texts = [*accepted, *refused, *formulas.UNENDED, *formulas.JUDGED.values()]
+    chosen = worked + [(text, formulas.any_values(chooser)) for text in texts]
+    drawn = [(any_formula(chooser)[1], formulas.any_values(chooser)) for _ in range(count)]
+    return [(text.encode("latin-1"), values) for text, values in chosen] + drawn
+
+
+def compare_formula_console(command, seed, count):
+    """Also with the evaluator's number."""
+    endings, given = Counter(), console_formulas(seed, count)
+    for formula, values in given:
+        read = pushes(values) + formula
+        expected = sam.formula_console(read)
+        answered = ask(command, read)[0].decode("latin-1")
+        endings[expected.splitlines()[-1].split(" ", 1)[0]] += 1
+        if not expected.startswith("refused "):
+            number = sam.evaluate(formula, values)
+            last = "end 5: the formula divides by zero" if number is None else f"number {number}"
+            assert expected.splitlines()[-1] == last, (formula, values)
+        if answered != expected:
+            report("console of formulas", [repr(read)], expected, answered)
+            return False
+    print(
+        f"console of formulas: {len(given)} alike, {endings['number']} with a number, {endings['end']} with 5, and "
         f"{endings['refused']} refused"
     )
     return True
@@ -915,13 +977,26 @@ def load_tests():
     yield from (("change", what, number) for what, numbers in CHANGED_IMAGES.items() for number in numbers)
 
 
+def formula_tests():
+    """(What is tried, formula, number, length, depth), by hand."""
+    label = formulas.label
+    accepted = {**formulas.ACCEPTED, **formulas.LONG_ACCEPTED}
+    yield from (("accepted", label(text), 0, *told) for text, told in accepted.items())
+    yield from (("refused", label(text), number, 0, 0) for text, number in formulas.refused_texts())
+    yield from (("unended", label(text), 71, 0, 0) for text in formulas.UNENDED)
+    yield from ((met, label(text), met[0], 0, 0) for met, texts in formulas.MEETING.items() for text in texts)
+    for byte, (before, behind) in product(formulas.FORBIDDEN_BYTES, formulas.AROUND):
+        yield "byte", before + chr(byte) + behind, 70, 0, 0
+    yield from (("too long", label(text), 21, 0, 0) for text in formulas.TOO_LONG)
+
+
 def all_met(script):
     """Whether the cases led to every number, to every fault of a source in its first line and in a later one, to every
     test of FLOATs, sum and conversion by the proved step and by the direct run, to sums and conversions refused with
     and without a history, to every kind of decimal, to the last codes, to every dwell, to every kept number, to every
     output, character, record and WRITECH that request h speaks of, to every forget and its room, to every depth list
-    and every call with one, to every state saved and image loaded and every session carried on, to every why, and to a
-    told and registers of another length wherever they are refused."""
+    and every call with one, to every state saved and image loaded and every session carried on, to every why, to every
+    formula and its runs, and to a told and registers of another length wherever they are refused."""
     lines = product(FAULTS, (1, 2))
     single_tests = [*FLOAT_TESTS, *sum_tests(), *CONVERSION_TESTS, *CHARACTER_TESTS]
     tests = [(word, *test) for word in ("step", "plain") for test in single_tests]
@@ -935,6 +1010,8 @@ def all_met(script):
     listed_calls = [(word, number) for word, numbers in LISTED_CALLS.items() for number in numbers]
     depth_tolds = product(other_tolds(1), (0, *depths.ORDER[1:]))
     why_tolds = [(told_length, *of) for told_length, of in product(other_tolds(WHY_TOLD), WHY_NUMBERS)]
+    drawn_formulas = [(kind, number) for kind, numbers in DRAWN_FORMULAS.items() for number in numbers]
+    formula_tables = product(formulas.OTHER_PLACES, formulas.JUDGED)
     complete = [
         all_in(script.numbers, ALL_NUMBERS, "never given back"),
         all_in(script.fault_lines, lines, "faults never in the first line (1) or never in a later one (2)"),
@@ -980,6 +1057,10 @@ def all_met(script):
         all_in(script.asked_cells, ASKED_CELLS, "cells (HALT, where, how many wrote it) never asked"),
         all_in(script.back_to_named, BACK_TO_NAMED, "steps (steps back, changed) never named and taken back"),
         all_in(script.why_tolds, why_tolds, "whys (told's length, number alone, found) never refused"),
+        all_in(script.formulas, formula_tests(), "formulas (tried, formula, number, length, depth) never translated"),
+        all_in(script.drawn_formulas, drawn_formulas, "formulas (kind, number) never drawn"),
+        all_in(script.formula_tables, formula_tables, "formulas (places, number with 1,024) never refused"),
+        all_in(script.formula_runs, FORMULA_RUNS, "formulas (short of, any history, any between, number) never run"),
         all_in(script.wrong_tolds, told_tests(), "writers (told's, output's length, number of input) never refused"),
         all_in(script.register_lengths, length_tests(), "calls (number with nine, length, number) never refused"),
         all_in(script.resets, reset_tests(), "resets (registers, cells, tags, history, output, number) never made"),
@@ -1001,7 +1082,8 @@ def main():
     parser.add_argument("--cases", type=int, default=20000)
     parser.add_argument("--only", default=",".join(FAMILIES), help="families of cases: " + ", ".join(FAMILIES))
     parser.add_argument("--console", help="the console program, compared as well")
-    parser.add_argument("--sources", type=int, default=200, help="sources for the console")
+    parser.add_argument("--formula-console", help="the console program for formulas, compared as well")
+    parser.add_argument("--sources", type=int, default=200, help="sources for the console, and formulas for theirs")
     parser.add_argument("--save", help="a file for the driver's lines that led to the first difference")
     words = parser.parse_args()
     families = words.only.split(",")
@@ -1013,6 +1095,8 @@ def main():
         alike = all_met(script) and alike
     if words.console:
         alike = compare_console(words.console, words.seed, words.sources) and alike
+    if words.formula_console:
+        alike = compare_formula_console(words.formula_console, words.seed, words.sources) and alike
     return 0 if alike else 1
 
 

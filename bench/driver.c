@@ -139,7 +139,7 @@ static void print_end(void) {
     check_guards(&table, "table");
 }
 
-/* Bytes to a table: assemble and unpack. */
+/* Bytes to a table: assemble, unpack and translate. */
 static void call_reading(reading_call *call) {
     struct lent made = {.width = 8};
     lend(&made, read_number());
@@ -262,6 +262,7 @@ static void call_depths(void) {
 static void obey(const char *word) {
     if (strcmp(word, "assemble") == 0) call_reading(sam_assemble);
     else if (strcmp(word, "unpack") == 0) call_reading(sam_unpack);
+    else if (strcmp(word, "translate") == 0) call_reading(sam_translate);
     else if (strcmp(word, "list") == 0) call_writing(sam_list);
     else if (strcmp(word, "pack") == 0) call_writing(sam_pack);
     else if (strcmp(word, "program") == 0) length = read_number(), read_list(&table);

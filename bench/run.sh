@@ -6,6 +6,7 @@ cd "$(dirname "$0")/.."
 . bench/toolchain.sh
 library=target/staticlib/libsam_c.a
 console=target/bin/sam
+formula_console=target/bin/sam_formula
 out=target/bench
 mkdir -p "$out"
 
@@ -18,6 +19,7 @@ first_command python3 >/dev/null || fail "there is no Python 3 (Debian: apt-get 
 c_works || fail "$WHY"
 [ -f "$library" ] || fail "there is no $library; make it with: rt staticlib sam_c"
 [ -x "$console" ] || fail "there is no $console; make it with: rt check sam"
+[ -x "$formula_console" ] || fail "there is no $formula_console; make it with: rt check sam_formula"
 
 echo "bench: the interpreter's own tests"
 python3 bench/test_sam.py
@@ -41,5 +43,9 @@ $RUN "$out/stack"
 
 echo "bench: every call compared"
 $CC $FLAGS -Iinclude -Ibench bench/driver.c bench/plain.c bench/plain_image.c "$library" -o "$out/driver"
-python3 bench/compare.py --save "$out/difference" --console "$RUN_KIT $console" "$RUN $out/driver"
+python3 bench/compare.py --save "$out/difference" --console "$RUN_KIT $console" \
+    --formula-console "$RUN_KIT $formula_console" "$RUN $out/driver"
+
+echo "bench: the formulas of README.md, as they are written there"
+python3 bench/readme.py
 echo "bench: done"

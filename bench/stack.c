@@ -33,6 +33,9 @@ static uint16_t depths[SAM_TABLE_PLACES];
 
 static uint64_t asked; /* the cell of a why */
 
+static char formula[SAM_SOURCE_LIMIT];
+static size_t formula_len;
+
 static uint32_t number; /* what the last call gave */
 
 static void assemble(void) {
@@ -93,6 +96,10 @@ static void load(void) {
 
 static void judge(void) {
     number = sam_depths(table, SAM_TABLE_PLACES, length, SAM_CELL_LIMIT, depths, length, told, 1);
+}
+
+static void translate(void) {
+    number = sam_translate((const uint8_t *)formula, formula_len, table, SAM_TABLE_PLACES, told, 2);
 }
 
 /* A packer with a copy of the image, to see that the measurement finds it. */
@@ -158,6 +165,72 @@ static void ask_beyond(void) { asked = SAM_CELL_LIMIT; }
 
 static void break_oldest(void) { history[0] |= 1; }
 
+static void write_formula(const char *piece, size_t count) {
+    size_t size = strlen(piece);
+    for (size_t i = 0; i < count; i++, formula_len += size) memcpy(formula + formula_len, piece, size);
+}
+
+/* As deep as may be, by brackets, by signs and by both in turn, each with operators of either rank before it, and of
+ * brackets behind it too. */
+static void open_brackets(void) { write_formula("a+b*(", SAM_NESTING_LIMIT); }
+
+static void nest_brackets(void) {
+    open_brackets();
+    write_formula("a+b*c-d", 1);
+    write_formula(")/e-f", SAM_NESTING_LIMIT);
+}
+
+static void nest_signs(void) {
+    write_formula("a+b*", 1);
+    write_formula("-", SAM_NESTING_LIMIT);
+    write_formula("c/d-e", 1);
+}
+
+static void nest_both(void) {
+    write_formula("a+b*-(", SAM_NESTING_LIMIT / 2);
+    write_formula("a+b*c-d", 1);
+    write_formula(")/e-f", SAM_NESTING_LIMIT / 2);
+}
+
+/* A sum of 1,024 instructions with STOP, and one that fills what the deepest bracket leaves of them: four for each. */
+static void write_long_sum(void) {
+    write_formula("a", 1);
+    write_formula("+a", SAM_TABLE_PLACES / 2 - 1);
+}
+
+static void nest_long_sum(void) {
+    open_brackets();
+    write_formula("a", 1);
+    write_formula("+a", SAM_TABLE_PLACES / 2 - 1 - 2 * SAM_NESTING_LIMIT);
+    write_formula(")", SAM_NESTING_LIMIT);
+}
+
+/* As many digits as there can be, in the deepest bracket. */
+static void nest_many_digits(void) {
+    open_brackets();
+    write_formula("0", SAM_SOURCE_LIMIT - formula_len - SAM_NESTING_LIMIT);
+    write_formula(")", SAM_NESTING_LIMIT);
+}
+
+/* Each refusal in the deepest bracket. */
+static void refuse_deep(const char *last) {
+    open_brackets();
+    write_formula(last, 1);
+}
+
+static void refuse_byte(void) { refuse_deep("a+b*$"); }
+
+static void refuse_end(void) { refuse_deep("a+b*"); }
+
+static void refuse_number(void) { refuse_deep("a+b*2147483648"); }
+
+static void refuse_nesting(void) { refuse_deep("a+b*("); }
+
+static void refuse_cost(void) {
+    open_brackets();
+    write_formula("a+", SAM_TABLE_PLACES);
+}
+
 /* By how much each code moves SP. */
 static const signed char MOVES[CODES] = {
     0, 1, 1, 1, 0, -1, -1, -1, -1, -1, -1, -1, -1, -1, -1, -1, -1, -1, -1, 0, -1, -1, -1, -1, -1, 0, -1,
@@ -188,7 +261,7 @@ struct row {
     const struct cell *cell; /* where the machine is halted, or none */
     size_t most;             /* bytes, by sam.h */
     uint32_t empty, full;    /* the numbers that the call gives */
-    void (*change)(void);    /* of the long program, its list, its machine, its saved state or the cell, or none */
+    void (*change)(void);    /* of the long program, its list, its machine, its saved state, the cell or the formula */
 };
 
 /* A program, its image, a machine as the row has it, and its state saved. */
@@ -207,6 +280,7 @@ static void prepare(bool is_full, const struct row *row) {
     save();
     state_len = told[0];
     list_depths();
+    formula_len = 0;
     if (is_full && row->change != NULL) row->change();
 }
 
@@ -295,6 +369,17 @@ static const struct row ROWS[] = {
     {"load 67", load, TO_WRITECH + 1, NULL, SAM_LOAD_STACK, 0, 67, announce_fewer_cells},
     {"load 10", load, TO_WRITECH + 1, NULL, SAM_LOAD_STACK, 0, 10, break_last},
     {"load 45", load, TO_WRITECH + 1, NULL, SAM_LOAD_STACK, 0, 45, lengthen_state},
+    {"translate (", translate, 0, NULL, SAM_TRANSLATE_STACK, 71, 0, nest_brackets},
+    {"translate -", translate, 0, NULL, SAM_TRANSLATE_STACK, 71, 0, nest_signs},
+    {"translate -(", translate, 0, NULL, SAM_TRANSLATE_STACK, 71, 0, nest_both},
+    {"translate +", translate, 0, NULL, SAM_TRANSLATE_STACK, 71, 0, write_long_sum},
+    {"translate (+", translate, 0, NULL, SAM_TRANSLATE_STACK, 71, 0, nest_long_sum},
+    {"translate (0", translate, 0, NULL, SAM_TRANSLATE_STACK, 71, 0, nest_many_digits},
+    {"translate 70", translate, 0, NULL, SAM_TRANSLATE_STACK, 71, 70, refuse_byte},
+    {"translate 71", translate, 0, NULL, SAM_TRANSLATE_STACK, 71, 71, refuse_end},
+    {"translate 72", translate, 0, NULL, SAM_TRANSLATE_STACK, 71, 72, refuse_number},
+    {"translate 73", translate, 0, NULL, SAM_TRANSLATE_STACK, 71, 73, refuse_nesting},
+    {"translate 28", translate, 0, NULL, SAM_TRANSLATE_STACK, 71, 28, refuse_cost},
 };
 
 /* What request c forbids. */

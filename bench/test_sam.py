@@ -1,5 +1,5 @@
 #!/usr/bin/env python3
-"""Tests of the interpreter in sam/: the twelve P examples of document 01, its sentences, requests a, b and d to l, and
+"""Tests of the interpreter in sam/: the twelve P examples of document 01, its sentences, requests a, b and d to m, and
 the settled readings.
 
 Every expected value is read off the documents or worked out by hand; none is copied from an output.
@@ -17,6 +17,7 @@ from itertools import product
 import decimals
 import depth_list
 import depths as depth_cases
+import formulas
 import programs
 import sam
 from sam import floats
@@ -3933,6 +3934,351 @@ class Why(unittest.TestCase):
                 if is_found:
                     self.assertEqual((sam.step_back(made, walked), walked.cell(cell)), (0, tuple(old)))
                     self.assertEqual(walked.registers.pc, pc)
+
+
+class Formula(unittest.TestCase):
+    """Request m: dwell formulas as ordinary arithmetic. An answer is (number, length, depth)."""
+
+    def translate(self, text):
+        """The answer and the table, which held other things before."""
+        table = [7] * PLACES
+        return sam.translate(text if isinstance(text, bytes) else text.encode("latin-1"), table), table
+
+    def check_refused(self, text, number):
+        """ "a refusal tells zeros and zeroes a table of right length" """
+        answer, table = self.translate(text)
+        self.assertEqual(answer, (number, 0, 0), text[:200])
+        self.assertFalse(any(table))
+
+    def check_code(self, text, source):
+        """Just as if this source had been assembled, all 1,024 places."""
+        (_, length, *_), expected = assembled(source)
+        answer, table = self.translate(text)
+        self.assertEqual(answer[:2], (0, length), text)
+        self.assertTrue(table == expected, text)
+
+    # ---- its code
+
+    def test_code(self):
+        for text, source in [
+            ("2 + 3 * (a - 1)", "PUSHIMM 2 PUSHIMM 3 PUSHOFF 0 PUSHIMM 1 SUB TIMES ADD STOP"),
+            ("7", "PUSHIMM 7 STOP"),
+            ("0", "PUSHIMM 0 STOP"),
+            ("2147483647", "PUSHIMM 2147483647 STOP"),
+            ("a-b-c", "PUSHOFF 0 PUSHOFF 1 SUB PUSHOFF 2 SUB STOP"),
+            ("a-(b-c)", "PUSHOFF 0 PUSHOFF 1 PUSHOFF 2 SUB SUB STOP"),
+            ("d/e/f", "PUSHOFF 3 PUSHOFF 4 DIV PUSHOFF 5 DIV STOP"),
+            ("d*e/f", "PUSHOFF 3 PUSHOFF 4 TIMES PUSHOFF 5 DIV STOP"),
+            ("d/e*f", "PUSHOFF 3 PUSHOFF 4 DIV PUSHOFF 5 TIMES STOP"),
+            ("a+b*c", "PUSHOFF 0 PUSHOFF 1 PUSHOFF 2 TIMES ADD STOP"),
+            ("a*b+c", "PUSHOFF 0 PUSHOFF 1 TIMES PUSHOFF 2 ADD STOP"),
+            ("a-b/c+d", "PUSHOFF 0 PUSHOFF 1 PUSHOFF 2 DIV SUB PUSHOFF 3 ADD STOP"),
+            ("(a+b)*c", "PUSHOFF 0 PUSHOFF 1 ADD PUSHOFF 2 TIMES STOP"),
+            ("g-h", "PUSHOFF 6 PUSHOFF 7 SUB STOP"),
+            ("-a", "PUSHOFF 0 PUSHIMM -1 TIMES STOP"),
+            ("-5", "PUSHIMM 5 PUSHIMM -1 TIMES STOP"),
+            ("--a", "PUSHOFF 0 PUSHIMM -1 TIMES PUSHIMM -1 TIMES STOP"),
+            ("-a*b", "PUSHOFF 0 PUSHIMM -1 TIMES PUSHOFF 1 TIMES STOP"),
+            ("-(a*b)", "PUSHOFF 0 PUSHOFF 1 TIMES PUSHIMM -1 TIMES STOP"),
+            ("-a+b", "PUSHOFF 0 PUSHIMM -1 TIMES PUSHOFF 1 ADD STOP"),
+            ("2*-3", "PUSHIMM 2 PUSHIMM 3 PUSHIMM -1 TIMES TIMES STOP"),
+            ("a--b", "PUSHOFF 0 PUSHOFF 1 PUSHIMM -1 TIMES SUB STOP"),
+            ("a/-b*c", "PUSHOFF 0 PUSHOFF 1 PUSHIMM -1 TIMES DIV PUSHOFF 2 TIMES STOP"),
+            ("((a))", "PUSHOFF 0 STOP"),
+        ]:
+            self.check_code(text, source)
+
+    def test_answers(self):
+        """Length and depth by hand."""
+        for text, told in [*formulas.ACCEPTED.items(), *formulas.LONG_ACCEPTED.items()]:
+            self.assertEqual(self.translate(text)[0], (0, *told), formulas.label(text))
+
+    def test_same_number_other_table(self):
+        """Number, length and depth do not tell these apart."""
+        of_sign, of_product = self.translate("-a*b"), self.translate("-(a*b)")
+        self.assertEqual((of_sign[0], of_product[0]), ((0, 6, 2), (0, 6, 2)))
+        self.assertNotEqual(of_sign[1], of_product[1])
+        for values in ([3, 4], [-2147483648, -1], [65536, 65536], [0, 5]):
+            both = [sam.evaluate(text, formulas.filled(values)) for text in (b"-a*b", b"-(a*b)")]
+            self.assertEqual(both[0], both[1])
+
+    def test_numbers(self):
+        """ "integers 0 to 2147483647", whatever zeros lead them."""
+        numbers = (0, 1, 9, 10, 40, 65536, 999999999, 1000000000, 2147483646, 2147483647)
+        too_large = (2147483648, 4294967295, 4294967296, 10**10, 1 << 64, (1 << 64) + 7)
+        for value, zeros in product(numbers, (0, 1, 10, 40)):
+            self.check_code("0" * zeros + str(value), f"PUSHIMM {value} STOP")
+        for value, zeros in product(too_large, (0, 1, 10, 40)):
+            self.check_refused("0" * zeros + str(value), 72)
+
+    def test_spaces(self):
+        """ "spaces are allowed" around tokens, and change nothing; within a number they end it."""
+        chooser = random.Random(3)
+        for _ in range(300):
+            tokens = formulas.tokens_of(chooser, formulas.any_tree(chooser, 4), 1, 0.2)
+            close = self.translate("".join(tokens))
+            self.assertEqual(close[0][0], 0)
+            for _ in range(3):
+                self.assertTrue(self.translate(formulas.spaced(chooser, tokens)) == close, tokens)
+        for other in "\t\n\r\v\f\0\xa0":
+            for text in (f"a{other}+b", f"{other}a", f"a{other}", f"1{other}2"):
+                self.check_refused(text, 70)
+        self.check_refused("1 2", 71)
+        self.check_refused("- 2147483 647", 71)
+
+    # ---- refusals
+
+    def test_single_bytes(self):
+        """Each byte alone: a formula, the beginning of one or nothing that can begin one, or forbidden."""
+        numbers = Counter()
+        for byte in range(256):
+            answer, _ = self.translate(bytes([byte]))
+            numbers[answer[0]] += 1
+            letter = chr(byte)
+            expected = 0 if letter in "0123456789abcdefgh" else 71 if letter in " +-*/()" else 70
+            self.assertEqual(answer[0], expected, byte)
+        self.assertEqual(numbers, {0: 18, 71: 7, 70: 231})
+
+    def test_forbidden_everywhere(self):
+        """Wherever it stands, also as the last byte, in brackets and behind 1,024 instructions."""
+        for byte in formulas.FORBIDDEN_BYTES:
+            for before, behind in formulas.AROUND:
+                self.check_refused(before + chr(byte) + behind, 70)
+        for before in ("(" * 16, "-" * 16, formulas.FULL, formulas.NEARLY):
+            self.check_refused(before + "$", 70)
+
+    def test_refused_at_a_token(self):
+        """Whatever stands behind it."""
+        for text, number in formulas.refused_texts():
+            self.check_refused(text, number)
+
+    def test_refused_at_the_end(self):
+        for text in formulas.UNENDED:
+            self.check_refused(text, 71)
+        for text in ("(", "-", "a+", "(a", "a*-", "(" * 16):
+            self.check_refused(text + "$", 70)
+            self.check_refused(text + " \n", 70)
+
+    def test_prefixes(self):
+        """Every prefix of a formula is one, or ends where none can."""
+        chooser, numbers = random.Random(4), Counter()
+        for _ in range(60):
+            text = formulas.text_of(chooser, formulas.any_tree(chooser, 4), 0.2)
+            for size in range(len(text) + 1):
+                answer, table = self.translate(text[:size])
+                numbers[answer[0]] += 1
+                self.assertEqual(any(table), answer[0] == 0)
+        self.assertEqual(set(numbers), {0, 71})
+
+    def test_meeting(self):
+        """ "then in this order" """
+        for met, texts in formulas.MEETING.items():
+            self.assertEqual(list(met), sorted(met, key=[70, 71, 72, 73, 28].index))
+            for text in texts:
+                self.check_refused(text, met[0])
+
+    def test_meeting_apart(self):
+        """What meets there is refused alone: the same token after something else."""
+        for text, number in [
+            ("$", 70), ("a b", 71), ("2147483648", 72), ("a 2147483647", 71), ("(" * 17, 73), ("(" * 16 + "-", 73),
+            ("(" * 15 + "a(", 71), (formulas.NEARLY + "-", 28), (formulas.FULL + "-", 28),
+            (formulas.NEARLY + "(" * 17, 73), (formulas.FULL + "(", 71),
+        ]:  # fmt: skip
+            self.check_refused(text, number)
+        self.assertEqual(self.translate(formulas.NEARLY + "(" * 16 + "a" + ")" * 16)[0], (0, 1024, 2))
+
+    def test_instructions(self):
+        """1,024 with STOP; "this token's cost": the sign of a minus has two, and is refused where both do not fit."""
+        for count in (1, 2, 100, 511, 512):
+            self.assertEqual(self.translate("a" + "+a" * (count - 1))[0], (0, 2 * count, min(count, 2)))
+        full = "a" + "+a" * 511
+        for text in (full + "+", full + "-", full + "*a", full + "/$", full + "+)", full + " +", full + "+a"):
+            self.check_refused(text, 28)
+        for text, number in [("a", 71), (")", 71), ("(", 71), ("$", 70), ("2147483648", 71), (" ", 0), ("", 0)]:
+            self.assertEqual(self.translate(full + text)[0][0], number, text)
+        nearly = "a" + "+a" * 510 + "+"  # 1,023 with STOP
+        for text, number in [("a", 0), ("7", 0), ("(a)", 0), ("-a", 28), ("-$", 28), ("-", 28), ("(-", 28), ("", 71),
+                             ("(", 71), ("+", 71), ("2147483648", 72), ("$", 70), ("a+", 28), ("a)", 71)]:  # fmt: skip
+            self.assertEqual(self.translate(nearly + text)[0][0], number, text)
+        before = "a" + "+a" * 509 + "+"  # 1,021
+        for text, number in [("-a", 0), ("a", 0), ("-", 71), ("--", 28), ("-a+", 28), ("-(a)", 0), ("a+a", 0)]:
+            self.assertEqual(self.translate(before + text)[0][0], number, text)
+
+    def test_nesting(self):
+        """Sixteen are done, in any order, and the seventeenth is 73, also after others that were closed."""
+        chooser = random.Random(5)
+        for _ in range(400):
+            opened = [chooser.choice(["-", "("]) for _ in range(16)]
+            closed = ")" * opened.count("(")
+            plain = chooser.choice(["", "a+", "-a*", "(a)-", "(-(b))/", "a+-(-b)*"]) + "".join(opened)
+            self.assertEqual(self.translate(plain + "a" + closed)[0][0], 0)
+            for more in "-(":
+                self.check_refused(plain + more, 73)
+                self.check_refused(plain + more + chooser.choice(["$", "a", "2147483648", ")"]), 73)
+            self.check_refused(plain + "$", 70)
+            self.check_refused(plain + "2147483648", 72)
+            self.check_refused(plain + ")", 71)
+        self.assertEqual(self.translate("+".join(["-a"] * 20))[0], (0, 80, 3))
+        self.assertEqual(self.translate("*".join(["(-(a))"] * 20))[0], (0, 80, 3))
+        self.assertEqual(self.translate("-a+(" * 16 + "b" + ")" * 16)[0], (0, 66, 17))  # each sign ended before
+        self.check_refused("-a+(" * 16 + "-b" + ")" * 16, 73)
+        self.check_refused("-(" + "a+(" * 15 + "b" + ")" * 16, 73)
+
+    def test_lengths(self):
+        """ "31 comes first and 21 next" """
+        for text in ("a", "", "$", "2147483648", "a" * 65537, "(" * 65537):
+            for places in (0, 1, 1023, 1025, 2048):
+                table = [7] * places
+                self.assertEqual(sam.translate(text.encode(), table), (31, 0, 0))
+                self.assertTrue(table == [7] * places)
+        for text in formulas.TOO_LONG:
+            self.check_refused(text, 21)
+        for size, number in [(65535, 0), (65536, 0), (65537, 21), (65538, 21), (131072, 21), (131073, 21)]:
+            for text in ("a".ljust(size), "a".rjust(size), "0" * size):
+                self.assertEqual(self.translate(text)[0][0], number)
+        for letter, number in [("(", 73), ("-", 73), ("$", 70), ("a", 71), ("9", 72), (" ", 71), ("+", 71)]:
+            self.check_refused(letter * 65536, number)
+            self.check_refused(letter * 65537, 21)
+
+    # ---- its number
+
+    def test_evaluator(self):
+        for text, values, value in formulas.WORKED:
+            self.assertEqual(sam.evaluate(text.encode(), formulas.filled(values)), value, (text, values))
+
+    def test_evaluator_of_trees(self):
+        """Its number is that of the tree that the text was made of."""
+        chooser, divided = random.Random(6), Counter()
+        for _ in range(1500):
+            tree, values = formulas.any_tree(chooser, chooser.randrange(7)), formulas.any_values(chooser)
+            value = formulas.tree_value(tree, values)
+            divided[value is None] += 1
+            self.assertEqual(sam.evaluate(formulas.text_of(chooser, tree, chooser.choice([0, 0.3])), values), value)
+        self.assertGreater(min(divided.values()), 100)
+
+    def machine(self, depth, values, between, h, less=0):
+        """Eight INTs, others between, any above; U and the output in use; room for this depth and H free places."""
+        live = [*[(INT, value % WORD) for value in values], *between]
+        cells = live + [(CH, 9)] * (depth + 1 - less)
+        record = [cell_place(0, FLOAT, 7), step_place()] if h else []
+        tags, bits = map(list, zip(*cells))
+        state = sam.State(bits, tags, record + [0] * h, bytearray(b"A\xff\0"))
+        state.registers = sam.Registers(len(cells), len(state.history), sp=len(live), used=len(record), written=2)
+        state.registers.kept = 1 if record else 0
+        return state, live
+
+    def check_run(self, text, values, between, h_of):
+        """ "a plain run leaves the formula's number on top and all eight cells as they were", and all others below; SP
+        goes up to SP + depth and no further."""
+        (number, length, depth), table = self.translate(text)
+        self.assertEqual(number, 0, text)
+        made, value = sam.Program(table, length), sam.evaluate(text, values)
+        state, live_before = self.machine(depth, values, between, h_of(length))
+        sp, tops = state.registers.sp, []
+        stepping = sam.State(*[list(part) for part in (state.bits, state.tags, state.history)], bytearray(state.output))
+        stepping.registers = replace(state.registers)
+        while plain_step(made, stepping) == 0:
+            tops.append(stepping.registers.sp)
+        answer = sam.run(made, state, length)
+        self.assertEqual(contents(state), contents(stepping))
+        self.assertEqual((live(state)[:sp], state.output), (live_before, b"A\xff\0"))
+        self.assertLessEqual(max(tops, default=sp), sp + depth)
+        if value is None:
+            self.assertEqual(answer[0], 5)
+        else:
+            self.assertEqual((answer, live(state)[sp:]), ((0, length), [(INT, value % WORD)]))
+            self.assertEqual((max(tops), state.registers.halt), (sp + depth, 1))
+        return value
+
+    def check_short(self, text, values, between):
+        """With one cell, history place or step less: 7, 8 and 50, where nothing divides by zero."""
+        (_, length, depth), table = self.translate(text)
+        made, room = sam.Program(table, length), 2 * length - 1
+        for h, less, limit, number in [(0, 1, length, 7), (room, 1, length, 7), (room - 1, 0, length, 8),
+                                       (0, 0, length - 1, 50), (room, 0, length - 1, 50)]:  # fmt: skip
+            state, live_before = self.machine(depth, values, between, h, less)
+            self.assertEqual(sam.run(made, state, limit)[0], number, (text, h, less, limit))
+            self.assertEqual(state.cells(0, len(live_before)), live_before)
+
+    ROOMS = [lambda length: 0, lambda length: 2 * length - 1, lambda length: 2 * length + 5]
+
+    def test_worked(self):
+        for text, values, value in formulas.WORKED:
+            for between, h_of in product(([], [(FLOAT, 7), (CH, 127), (PA, 2)]), self.ROOMS):
+                ran = self.check_run(text.encode(), formulas.filled(values), between, h_of)
+                self.assertEqual(ran, value, (text, values))
+
+    def test_runs_of_accepted(self):
+        values = [7, 2, -3, 40, -2147483648, 5, -1, 11]
+        for text in [*formulas.ACCEPTED, *formulas.LONG_ACCEPTED]:
+            value = self.check_run(text.encode(), values, [], self.ROOMS[1])
+            if value is not None:
+                self.check_short(text.encode(), values, [(MA, 3)])
+
+    def test_trees(self):
+        """Trees as texts: code, cost and depth are the tree's, and a run leaves its number."""
+        chooser, seen = random.Random(7), Counter()
+        for _ in range(700):
+            tree, values = formulas.any_tree(chooser, chooser.randrange(1, 8)), formulas.any_values(chooser)
+            text = formulas.text_of(chooser, tree, chooser.choice([0, 0, 0.2, 0.6]))
+            code = [*formulas.tree_code(tree), 0]
+            answer, table = self.translate(text)
+            self.assertEqual(answer, (0, len(code), formulas.tree_depth(tree)), text)
+            self.assertTrue(table == code + [0] * (PLACES - len(code)), text)
+            between = formulas.any_between(chooser, len(code))
+            value = self.check_run(text, values, between, chooser.choice(self.ROOMS))
+            self.assertEqual(value, formulas.tree_value(tree, values), text)
+            if value is not None:
+                self.check_short(text, values, between)
+            seen[value is None, bool(between)] += 1
+        self.assertEqual(len(seen), 4)
+
+    def test_divides_by_zero(self):
+        """5 exactly where a division's right side is 0, needed or not, and nothing before it is undone."""
+        for text, steps in [
+            ("1/0", 2), ("0*(1/0)", 3), ("1/0+(2+(3+4))", 2), ("a-b/c", 3), ("a/(b-b)", 4), ("-1/-0", 6),
+        ]:  # fmt: skip
+            (_, length, depth), table = self.translate(text)
+            made = sam.Program(table, length)
+            state, _ = self.machine(depth, [5, 6, 0, 0, 0, 0, 0, 0], [], 0)
+            self.assertEqual(sam.run(made, state, length), (5, steps), text)
+            self.assertIsNone(sam.evaluate(text.encode(), [5, 6, 0, 0, 0, 0, 0, 0]))
+
+    def test_drawn_texts(self):
+        """Texts that were no tree before: a run of those that are formulas leaves the evaluator's number."""
+        chooser, numbers = random.Random(8), Counter()
+        for _ in range(800):
+            text = formulas.walked(chooser, chooser.choice([3, 8, 20, 40]))
+            text = formulas.damaged(chooser, text) if chooser.randrange(3) == 0 else text
+            (number, *_), table = self.translate(text)
+            numbers[number] += 1
+            if number == 0:
+                self.check_run(text, formulas.any_values(chooser), [], chooser.choice(self.ROOMS))
+            else:
+                self.check_refused(text, number)
+        for number in (0, 70, 71, 72, 73):
+            self.assertIn(number, numbers)
+
+    # ---- the console of formulas
+
+    EIGHT = b"PUSHIMM 4 PUSHIMM -9 PUSHIMM 0 PUSHIMM 0 PUSHIMM 0 PUSHIMM 0 PUSHIMM 0 PUSHIMM -2147483648 STOP\n"
+
+    def test_console(self):
+        listed = "PUSHIMM 2\nPUSHIMM 3\nPUSHOFF 0\nPUSHIMM 1\nSUB\nTIMES\nADD\nSTOP\n"
+        for text, printed in [
+            ("2 + 3 * (a - 1)", listed + "depth 4\nnumber 11\n"),
+            ("b", "PUSHOFF 1\nSTOP\ndepth 1\nnumber -9\n"),
+            ("-h", "PUSHOFF 7\nPUSHIMM -1\nTIMES\nSTOP\ndepth 2\nnumber -2147483648\n"),
+            ("a/c", "PUSHOFF 0\nPUSHOFF 2\nDIV\nSTOP\ndepth 2\nend 5: the formula divides by zero\n"),
+            ("", "refused 71: the formula cannot go on or end here\n"),
+            ("a b", "refused 71: the formula cannot go on or end here\n"),
+            ("a\n", "refused 70: forbidden byte\n"),
+            ("2147483648", "refused 72: number too large\n"),
+            ("(" * 17, "refused 73: nested too deep\n"),
+            (formulas.FULL + "+", "refused 28: more than 1,024 instructions\n"),
+            (" " * 65537, "refused 21: more than 65,536 bytes\n"),
+        ]:
+            self.assertEqual(sam.formula_console(self.EIGHT + text.encode()), printed, text[:20])
 
 
 class Soundness(unittest.TestCase):

@@ -1,4 +1,4 @@
-/* Tests of the C library through sam.h: the complaint of document 01, those of requests b and d, requests e to l, and
+/* Tests of the C library through sam.h: the complaint of document 01, those of requests b and d, requests e to m, and
  * samples of every refusal. One line for each check. */
 #include <stdbool.h>
 #include <stdio.h>
@@ -1094,7 +1094,7 @@ static void test_counts_by_hand(void) {
 
 /* What the writers below are given besides the program in `table`, and where they write. */
 static const uint8_t stop[] = {'S', 'T', 'O', 'P'}, packed_stop[] = {0x00, 0x20, 0x00};
-static const uint8_t over_limit[SAM_SOURCE_LIMIT + 1]; /* of a source */
+static const uint8_t over_limit[SAM_SOURCE_LIMIT + 1]; /* of a source and of a formula */
 static uint64_t made_table[SAM_TABLE_PLACES + 1];
 
 static uint32_t assemble_done(size_t places, size_t told_len) {
@@ -1107,6 +1107,18 @@ static uint32_t assemble_fault(size_t places, size_t told_len) {
 
 static uint32_t assemble_too_long(size_t places, size_t told_len) {
     return sam_assemble(over_limit, sizeof over_limit, made_table, places, told, told_len);
+}
+
+static uint32_t translate_done(size_t places, size_t told_len) {
+    return sam_translate((const uint8_t *)"-a", 2, made_table, places, told, told_len);
+}
+
+static uint32_t translate_fault(size_t places, size_t told_len) {
+    return sam_translate((const uint8_t *)"a+", 2, made_table, places, told, told_len);
+}
+
+static uint32_t translate_too_long(size_t places, size_t told_len) {
+    return sam_translate(over_limit, sizeof over_limit, made_table, places, told, told_len);
 }
 
 static uint32_t unpack_done(size_t places, size_t told_len) {
@@ -1143,6 +1155,8 @@ static uint32_t save_broken(size_t image_len, size_t told_len) {
                     output_len, state, image_len, told, told_len);
 }
 
+enum { FORMULA_LENGTH, FORMULA_DEPTH, FORMULA_TOLD }; /* what translate tells */
+
 /* A call, its number where all lengths are right, these lengths, and its output with the bytes of an element. */
 static const struct writer {
     const char *name;
@@ -1155,6 +1169,9 @@ static const struct writer {
     {"assemble", assemble_done, 0, SAM_TABLE_PLACES, SAM_ASSEMBLE_TOLD, made_table, sizeof made_table[0]},
     {"assemble a fault", assemble_fault, 23, SAM_TABLE_PLACES, SAM_ASSEMBLE_TOLD, made_table, sizeof made_table[0]},
     {"assemble too long", assemble_too_long, 21, SAM_TABLE_PLACES, SAM_ASSEMBLE_TOLD, made_table, sizeof made_table[0]},
+    {"translate", translate_done, 0, SAM_TABLE_PLACES, FORMULA_TOLD, made_table, sizeof made_table[0]},
+    {"translate a fault", translate_fault, 71, SAM_TABLE_PLACES, FORMULA_TOLD, made_table, sizeof made_table[0]},
+    {"translate too long", translate_too_long, 21, SAM_TABLE_PLACES, FORMULA_TOLD, made_table, sizeof made_table[0]},
     {"unpack", unpack_done, 0, SAM_TABLE_PLACES, 1, made_table, sizeof made_table[0]},
     {"unpack an image that ends early", unpack_early, 41, SAM_TABLE_PLACES, 1, made_table, sizeof made_table[0]},
     {"list", list_done, 0, SAM_TEXT_BYTES, 1, text, sizeof text[0]},
@@ -3215,6 +3232,245 @@ static void test_other_programs(void) {
     }
 }
 
+/* ---- formulas */
+
+static uint32_t translate_bytes(const char *formula, size_t size) {
+    mark_told();
+    memset(table, MARK, sizeof table);
+    uint32_t number = sam_translate((const uint8_t *)formula, size, table, SAM_TABLE_PLACES, told, FORMULA_TOLD);
+    length = told[FORMULA_LENGTH];
+    check_told_marked(FORMULA_TOLD);
+    return number;
+}
+
+/* Just the table of this source, with this depth. */
+static void check_formula(const char *formula, const char *source, uint64_t depth) {
+    static uint64_t expected[SAM_TABLE_PLACES];
+    check("  assemble", 0, assemble(source));
+    uint64_t assembled = length;
+    memcpy(expected, table, sizeof expected);
+    check(formula, 0, translate_bytes(formula, strlen(formula)));
+    check("  length", assembled, told[FORMULA_LENGTH]);
+    check("  depth", depth, told[FORMULA_DEPTH]);
+    check("  another table", 0, (uint64_t)(memcmp(expected, table, sizeof expected) != 0));
+}
+
+/* "a refusal tells zeros and zeroes a table of right length" */
+static void check_no_formula(const char *name, const char *formula, size_t size, uint32_t number) {
+    check(name, number, translate_bytes(formula, size));
+    check("  length", 0, told[FORMULA_LENGTH]);
+    check("  depth", 0, told[FORMULA_DEPTH]);
+    check("  table not zeroed", 0, others((const uint8_t *)table, SAM_TABLE_PLACES * sizeof table[0], 0));
+    check("  written behind", 1, (uint64_t)(table[SAM_TABLE_PLACES] != 0));
+}
+
+static const struct { const char *formula, *source; uint64_t depth; } formulas[] = {
+    {"2 + 3 * (a - 1)", "PUSHIMM 2 PUSHIMM 3 PUSHOFF 0 PUSHIMM 1 SUB TIMES ADD STOP", 4},
+    {"7", "PUSHIMM 7 STOP", 1},
+    {" 007 ", "PUSHIMM 7 STOP", 1},
+    {"2147483647", "PUSHIMM 2147483647 STOP", 1},
+    {"00000000000000002147483647", "PUSHIMM 2147483647 STOP", 1},
+    {"h", "PUSHOFF 7 STOP", 1},
+    {"a-b-c", "PUSHOFF 0 PUSHOFF 1 SUB PUSHOFF 2 SUB STOP", 2},
+    {"a-(b-c)", "PUSHOFF 0 PUSHOFF 1 PUSHOFF 2 SUB SUB STOP", 3},
+    {"d/e*f", "PUSHOFF 3 PUSHOFF 4 DIV PUSHOFF 5 TIMES STOP", 2},
+    {"d*(e/f)", "PUSHOFF 3 PUSHOFF 4 PUSHOFF 5 DIV TIMES STOP", 3},
+    {"a+b*c-g", "PUSHOFF 0 PUSHOFF 1 PUSHOFF 2 TIMES ADD PUSHOFF 6 SUB STOP", 3},
+    {"(a+b)*c", "PUSHOFF 0 PUSHOFF 1 ADD PUSHOFF 2 TIMES STOP", 2},
+    {"-a*b", "PUSHOFF 0 PUSHIMM -1 TIMES PUSHOFF 1 TIMES STOP", 2},
+    {"-(a*b)", "PUSHOFF 0 PUSHOFF 1 TIMES PUSHIMM -1 TIMES STOP", 2},
+    {"2*-3", "PUSHIMM 2 PUSHIMM 3 PUSHIMM -1 TIMES TIMES STOP", 3},
+    {"a--b", "PUSHOFF 0 PUSHOFF 1 PUSHIMM -1 TIMES SUB STOP", 3},
+    {"--a", "PUSHOFF 0 PUSHIMM -1 TIMES PUSHIMM -1 TIMES STOP", 2},
+    {"1/0+(2+(3+4))", "PUSHIMM 1 PUSHIMM 0 DIV PUSHIMM 2 PUSHIMM 3 PUSHIMM 4 ADD ADD ADD STOP", 4},
+};
+
+static void test_formulas(void) {
+    puts("formulas and their programs");
+    for (size_t i = 0; i < sizeof formulas / sizeof formulas[0]; i++) {
+        check_formula(formulas[i].formula, formulas[i].source, formulas[i].depth);
+    }
+}
+
+/* A machine with what a to h hold below SP, just so many cells and places, and one byte written. */
+static void begin_formula(const int32_t *values, size_t cells, size_t places) {
+    check("  reset", 0, reset(cells, places));
+    for (size_t i = 0; i < SAM_NAMES; i++) bits[i] = (uint32_t)values[i];
+    registers[SAM_SP] = SAM_NAMES;
+    registers[SAM_WRITTEN] = 1;
+    output[0] = MARK;
+}
+
+static void check_names(const int32_t *values) {
+    for (size_t i = 0; i < SAM_NAMES; i++) check_cell("  a to h", i, SAM_INT, (uint32_t)values[i]);
+    check("  output", MARK, output[0]);
+    check("  written", 1, registers[SAM_WRITTEN]);
+}
+
+static void test_formula_run(void) {
+    static const int32_t values[SAM_NAMES] = {4, 0, -1, 7, 0, 0, 0, INT32_MIN};
+    const char *formula = "2 + 3 * (a - 1)";
+    puts("2 + 3 * (a - 1) with a = 4, in just the room that it needs");
+    check("  translate", 0, translate_bytes(formula, strlen(formula)));
+    check("  length", 8, told[FORMULA_LENGTH]);
+    check("  depth", 4, told[FORMULA_DEPTH]);
+    for (size_t places = 0; places <= 15; places += 15) {
+        begin_formula(values, SAM_NAMES + 4 + 1, places);
+        check("  run", 0, run(8));
+        check("  steps", 8, told[0]);
+        check("  SP", SAM_NAMES + 1, registers[SAM_SP]);
+        check_cell("  the number", SAM_NAMES, SAM_INT, 11);
+        check_names(values);
+    }
+    puts("and with one cell, history place or step less");
+    begin_formula(values, SAM_NAMES + 4, 15);
+    check("  run", 7, run(8));
+    check_names(values);
+    begin_formula(values, SAM_NAMES + 4 + 1, 14);
+    check("  run", 8, run(8));
+    check_names(values);
+    begin_formula(values, SAM_NAMES + 4 + 1, 15);
+    check("  run", 50, run(7));
+    check_cell("  the number", SAM_NAMES, SAM_INT, 11);
+}
+
+static const struct { const char *formula; int32_t values[SAM_NAMES]; uint32_t number; int32_t value; } worked[] = {
+    {"a-b-c", {10, 3, 2}, 0, 5},
+    {"a-(b-c)", {10, 3, 2}, 0, 9},
+    {"a/b*c", {7, 2, 3}, 0, 9},
+    {"a+b*c", {2, 3, 4}, 0, 14},
+    {"-a*b", {9, 6}, 0, -54},
+    {"-7/2", {0}, 0, -3},
+    {"7/-2", {0}, 0, -3},
+    {"2147483647+1", {0}, 0, INT32_MIN},
+    {"(-2147483647-1)/-1", {0}, 0, INT32_MIN},
+    {"a*a", {65536}, 0, 0},
+    {"h-g*f/e+d*(c-b)-a", {1, 2, 5, 4, 3, 7, 6, 100}, 0, 97},
+    {"1/0", {0}, 5, 0},
+    {"0*(1/0)", {0}, 5, 0},
+    {"1/0+(2+(3+4))", {0}, 5, 0},
+    {"a/(b-c)", {1, 5, 5}, 5, 0},
+};
+
+static void test_worked_formulas(void) {
+    puts("numbers of formulas");
+    for (size_t i = 0; i < sizeof worked / sizeof worked[0]; i++) {
+        check(worked[i].formula, 0, translate_bytes(worked[i].formula, strlen(worked[i].formula)));
+        begin_formula(worked[i].values, SAM_NAMES + (size_t)told[FORMULA_DEPTH] + 1, 2 * (size_t)length - 1);
+        check("  run", worked[i].number, run(length));
+        if (worked[i].number == 0) check_cell("  the number", SAM_NAMES, SAM_INT, (uint32_t)worked[i].value);
+        check_names(worked[i].values);
+    }
+}
+
+/* Tokens that meet no, one or more refusals: the first counts, in the order 70, 71, 72, 73, 28. */
+static const struct { const char *formula; uint32_t number; } no_formulas[] = {
+    {"$", 70}, {"i", 70}, {"A", 70}, {"a\t", 70}, {"a\n", 70}, {"a\r", 70}, {"a%b", 70}, {"a$", 70},
+    {"a+$", 70}, {"1.5", 70}, {"\xe1", 70},
+    {"", 71}, {" ", 71}, {"a+", 71}, {"(a", 71}, {"a)", 71}, {"()", 71}, {"ab", 71}, {"2a", 71}, {"1 2", 71},
+    {"a(b)", 71}, {"+a", 71}, {"a*/b", 71}, {"-", 71}, {"a 2147483648", 71}, {"a b$", 71}, {"a+)$", 71},
+    {"2147483648", 72}, {"2147483648$", 72}, {"00000000002147483648", 72}, {"-2147483648", 72}, {"4294967296", 72},
+    {"18446744073709551616", 72}, {"18446744073709551617 a", 72},
+    {"(((((((((((((((((", 73}, {"-----------------", 73}, {"-(-(-(-(-(-(-(-(-", 73}, {"(((((((((((((((( (a$", 73},
+    {"((((((((((((((((($", 73}, {"((((((((((((((((a(", 71}, {"((((((((((((((((2147483648", 72},
+    {"((((((((((((((((-2147483648", 73},
+    {"((((((((((((((((a)+-a+(a+((", 73},
+};
+
+static void test_refused_formulas(void) {
+    puts("refused formulas");
+    for (size_t i = 0; i < sizeof no_formulas / sizeof no_formulas[0]; i++) {
+        const char *formula = no_formulas[i].formula;
+        check_no_formula(formula, formula, strlen(formula), no_formulas[i].number);
+    }
+    check_no_formula("a byte 0", "a\0", 2, 70);
+    check_no_formula("a byte 0 first", "\0a", 2, 70);
+}
+
+/* `a` and so many times `+a`, with this behind. */
+static const char *sum_of(size_t more, const char *behind) {
+    size_t at = 0;
+    large[at++] = 'a';
+    for (size_t i = 0; i < more; i++, at += 2) memcpy(large + at, "+a", 2);
+    strcpy(large + at, behind);
+    return large;
+}
+
+static void check_sum(const char *name, size_t more, const char *behind, uint32_t number) {
+    const char *formula = sum_of(more, behind);
+    if (number != 0) {
+        check_no_formula(name, formula, strlen(formula), number);
+        return;
+    }
+    check(name, 0, translate_bytes(formula, strlen(formula)));
+    check("  length", SAM_TABLE_PLACES, told[FORMULA_LENGTH]);
+    check("  STOP", 0, table[SAM_TABLE_PLACES - 1]);
+}
+
+static void test_long_formulas(void) {
+    puts("1,024 instructions with STOP");
+    check_sum("  a and 511 times +a", 511, "", 0);
+    check_sum("  a space behind", 511, " ", 0);
+    check_sum("  the last in brackets", 510, "+((a))", 0);
+    check_sum("  a sign last", 509, "+-a", 0);
+    check_sum("  one more operator", 511, "+", 28);
+    check_sum("  a sign that does not fit", 510, "+-", 28);
+    check_sum("  a sign that does not fit, too deep", 510, "+((((((((((((((((-", 73);
+    check_sum("  one more operand", 511, "a", 71);
+    check_sum("  one more operand, too large", 511, "2147483648", 71);
+    check_sum("  a forbidden byte", 511, "$", 70);
+    check_sum("  an operator, then a forbidden byte", 511, "+$", 28);
+    check_sum("  nothing behind the last operator", 510, "+", 71);
+    puts("sixteen deep and 65,536 bytes");
+    check("  16 brackets", 0, translate_bytes("((((((((((((((((a))))))))))))))))", 33));
+    check("  16 signs", 0, translate_bytes("----------------a", 17));
+    check("  16 brackets behind others", 0, translate_bytes("(a)*((((((((((((((((a))))))))))))))))", 37));
+    check("  16 brackets behind a sum", 0, translate_bytes("a+((((((((((((((((a))))))))))))))))", 35));
+    check("  8 of each", 0, translate_bytes("-(-(-(-(-(-(-(-(a))))))))", 25));
+    check("  20 signs, one after another", 0,
+          translate_bytes("-a+-a+-a+-a+-a+-a+-a+-a+-a+-a+-a+-a+-a+-a+-a+-a+-a+-a+-a+-a", 59));
+    check("  length", 80, told[FORMULA_LENGTH]);
+    check("  depth", 3, told[FORMULA_DEPTH]);
+    repeated("a+b*(", 16);
+    check("  the deepest", 0, translate_bytes(large, strlen(strcat(large, "a+b*c))))))))))))))))"))));
+    check("  length", 70, told[FORMULA_LENGTH]);
+    check("  depth", 35, told[FORMULA_DEPTH]);
+    memset(large, ' ', sizeof large);
+    large[0] = 'a';
+    check("  65,536 bytes", 0, translate_bytes(large, SAM_SOURCE_LIMIT));
+    check("  length", 2, told[FORMULA_LENGTH]);
+    check_no_formula("  65,537 bytes", large, SAM_SOURCE_LIMIT + 1, 21);
+    large[0] = '$';
+    check_no_formula("  65,537 bytes, the first forbidden", large, SAM_SOURCE_LIMIT + 1, 21);
+    check_no_formula("  65,536 bytes, the first forbidden", large, SAM_SOURCE_LIMIT, 70);
+    memset(large, '0', sizeof large);
+    large[SAM_SOURCE_LIMIT - 1] = '9';
+    check("  65,535 zeros and a nine", 0, translate_bytes(large, SAM_SOURCE_LIMIT));
+    check("  PUSHIMM 9", UINT64_C(1) << 32 | 9, table[0]);
+}
+
+/* 31 before 21 and the rest: a table of another length stays as it is, and zeros are told. */
+static void test_lengths_of_formulas(void) {
+    static const size_t lengths[] = {0, 1, SAM_TABLE_PLACES - 1, SAM_TABLE_PLACES + 1};
+    static const struct { const char *name, *formula; size_t size; } given[] = {
+        {"a", "a", 1}, {"$", "$", 1}, {"65,537 bytes", (const char *)over_limit, sizeof over_limit},
+    };
+    puts("formulas with a table of another length");
+    for (size_t i = 0; i < sizeof given / sizeof given[0]; i++) {
+        for (size_t j = 0; j < sizeof lengths / sizeof lengths[0]; j++) {
+            memset(made_table, MARK, sizeof made_table);
+            mark_told();
+            check(given[i].name, 31,
+                  sam_translate((const uint8_t *)given[i].formula, given[i].size, made_table, lengths[j], told,
+                                FORMULA_TOLD));
+            check("  length", 0, told[FORMULA_LENGTH]);
+            check("  depth", 0, told[FORMULA_DEPTH]);
+            check_told_marked(FORMULA_TOLD);
+            check("  bytes changed", 0, others((const uint8_t *)made_table, sizeof made_table, MARK));
+        }
+    }
+}
+
 /* ---- lists and images */
 
 static void test_list(void) {
@@ -3343,6 +3599,12 @@ int main(void) {
     test_announced();
     test_greatest_state();
     test_other_programs();
+    test_formulas();
+    test_formula_run();
+    test_worked_formulas();
+    test_refused_formulas();
+    test_long_formulas();
+    test_lengths_of_formulas();
     test_list();
     test_images();
     printf("%u checks, %u failed\n", checks, failed);

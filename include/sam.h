@@ -1,8 +1,8 @@
 /* The SaM machine for C: every call of the proved library, with numbers and lent memory only.
  *
  * Link target/staticlib/libsam_c.a. Every call gives a number of document 01, with what requests a (24, 33), d (6),
- * e (5, 25, 33), f (60 to 63), g (10), h (10, 11, 12, 43), i (10, 14), j (11, 64 to 66), k (10, 41, 45, 67) and l (6,
- * 10) add:
+ * e (5, 25, 33), f (60 to 63), g (10), h (10, 11, 12, 43), i (10, 14), j (11, 64 to 66), k (10, 41, 45, 67), l (6,
+ * 10) and m (21, 28, 70 to 73) add:
  *
  *    0  done, or a run found HALT 1
  *    1  step with HALT 1
@@ -23,7 +23,7 @@
  *       1,000,000; at a depth list N outside the sizes below
  *   12  WRITECH with a full output; it comes after 7 and before 8
  *   14  forget of more steps than are kept
- *   21  source too long                       26  label twice
+ *   21  source or formula too long            26  label twice
  *   22  forbidden byte                        27  label unknown
  *   23  no instruction or label here          28  too many instructions
  *   24  operand missing, at the source's end  29  too many labels
@@ -39,6 +39,8 @@
  *   65  a forbidden instruction, with its first place
  *   66  a failed depth rule, with its first place
  *   67  at a load N not that of the lent cells and tags, or a lent history or output outside the sizes below
+ *   70  forbidden byte in a formula           72  number of a formula too large
+ *   71  a formula cannot go on or end here    73  formula nested too deep
  *
  * A count of elements stands after each pointer. A pointer is never null and is aligned for its type, also where the
  * count is 0; memory lent to be written overlaps no other memory of the call.
@@ -48,9 +50,9 @@
  * line and the column that assemble tells, the steps that a run made before a step was refused and the place that a
  * depth list is refused at.
  *
- * Assemble, list, pack, unpack and save write an output: a table, a text, an image. Refused, for a `told` of another
- * length too, they leave an output of wrong length untouched and zero one of right length. A refused step, step-back,
- * forget, reset, load or run-entry changes no cell, tag, history place or byte of the machine's output.
+ * Assemble, list, pack, unpack, save and translate write an output: a table, a text, an image. Refused, for a `told` of
+ * another length too, they leave an output of wrong length untouched and zero one of right length. A refused step,
+ * step-back, forget, reset, load or run-entry changes no cell, tag, history place or byte of the machine's output.
  */
 #ifndef SAM_H
 #define SAM_H
@@ -63,7 +65,7 @@ extern "C" {
 #endif
 
 enum {
-    SAM_SOURCE_LIMIT = 65536,  /* bytes of a source */
+    SAM_SOURCE_LIMIT = 65536,  /* bytes of a source, and of a formula */
     SAM_TABLE_PLACES = 1024,   /* places of a table: its exact length */
     SAM_TEXT_BYTES = 20480,    /* bytes of a listing: its exact length */
     SAM_IMAGE_BYTES = 4866,    /* bytes of a packed image: its exact length */
@@ -74,12 +76,15 @@ enum {
     SAM_RUN_LIMIT = 1000000,   /* steps of one run */
     SAM_DWELL_SHORTEST = 10,   /* a dwell is this many tenths of a second at least, */
     SAM_DWELL_LONGEST = 300,   /* and this many at most */
-    SAM_NOT_REACHED = 65535    /* in a depth list: this place is not reached; any other number is a depth */
+    SAM_NOT_REACHED = 65535,   /* in a depth list: this place is not reached; any other number is a depth */
+    SAM_NAMES = 8,             /* the names of a formula, a to h, are the cells 0 to 7 */
+    SAM_NESTING_LIMIT = 16     /* brackets and unary minus signs that may be open at one place of a formula */
 };
 
 /* Bytes of stack that a call needs at most, its arguments on the stack and its return address among them, whatever the
  * program: bounds for the library as it is built for x86-64, kept by measurement and not by proof (docs/PERFORMANCE.md,
- * "The stack"). Assemble keeps its 256 labels there, 2,048 bytes; no call copies what it is lent. */
+ * "The stack"). Assemble keeps its 256 labels there, 2,048 bytes, and translate calls itself for each bracket and each
+ * unary minus sign that is open; no call copies what it is lent. */
 enum {
     SAM_ASSEMBLE_STACK = 2560,
     SAM_LIST_STACK = 1024,
@@ -94,7 +99,8 @@ enum {
     SAM_DEPTHS_STACK = 256,
     SAM_SAVE_STACK = 512,
     SAM_LOAD_STACK = 512,
-    SAM_WHY_STACK = 512
+    SAM_WHY_STACK = 512,
+    SAM_TRANSLATE_STACK = 10240
 };
 
 /* The registers are a lent slice of nine. Registers of another length are a 10 in 10's place, so after 11 at a reset
@@ -216,6 +222,21 @@ uint32_t sam_save(const uint64_t *table, size_t places, uint64_t length, const u
 uint32_t sam_load(const uint8_t *image, size_t image_len, const uint64_t *table, size_t places, uint64_t length,
                   uint64_t *registers, size_t registers_len, uint32_t *bits, size_t n, uint8_t *tags, size_t tags_len,
                   uint64_t *history, size_t h, uint8_t *output, size_t output_len);
+
+/* Translates a formula into a table of 1,024 places, the unused ones zero. A formula has integers 0 to 2147483647,
+ * names a to h, + - * /, unary minus wherever an operand may stand, and round brackets; * and / bind before + and -,
+ * all four group to the left, and unary minus binds before them all. Spaces may stand before, between and behind
+ * tokens, and each token is one byte but for runs of digits. A number becomes PUSHIMM, a name PUSHOFF 0 to 7, an
+ * operator ADD, SUB, TIMES or DIV behind its two sides, unary minus PUSHIMM -1 and TIMES behind its operand; STOP is
+ * last. told[2]: the program's length, and its depth, the most values that it ever holds above the SP it begins with.
+ * With eight INT cells from 0 on below SP, FBR, PC and HALT 0, SP plus the depth below N, the length as limit and a
+ * history of none or of twice the length less one free places, a run ends with 0, leaves the formula's number as INT on
+ * top and every cell below as it was; where the formula divides by zero it ends with 5, and only then. 31, then 21,
+ * then of the first token from the left that has one, in this order: 70; 71, which the end of the formula can have too;
+ * 72; 73 for the seventeenth bracket or unary minus sign that would be open at once; 28 where the instructions of the
+ * tokens so far, this one's and STOP among them, are more than 1,024. */
+uint32_t sam_translate(const uint8_t *formula, size_t formula_len, uint64_t *table, size_t places, uint64_t *told,
+                       size_t told_len);
 
 #ifdef __cplusplus
 }

@@ -1,9 +1,10 @@
-"""An interpreter of document 01 with requests a, b and d to l of document 02, written from the documents and their
+"""An interpreter of document 01 with requests a, b and d to m of document 02, written from the documents and their
 settled readings, to compare the proved one with."""
 
-from .console import cell_line, console
+from .console import cell_line, console, formula_console
 from .depths import NOT_REACHED, check_depths
 from .dwell import dwell
+from .formula import evaluate, translate
 from .image import pack, unpack
 from .machine import Program, Registers, State, forget, reset, run, sound, step, step_back
 from .saved import load, save
@@ -20,7 +21,9 @@ __all__ = [
     "check_depths",
     "console",
     "dwell",
+    "evaluate",
     "forget",
+    "formula_console",
     "list_program",
     "load",
     "pack",
@@ -30,6 +33,7 @@ __all__ = [
     "sound",
     "step",
     "step_back",
+    "translate",
     "unpack",
     "why",
 ]

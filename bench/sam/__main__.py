@@ -1,7 +1,8 @@
-"""The console: `python3 -m sam < source`, started in bench/."""
+"""The consoles, started in bench/: `python3 -m sam < source`, and with `--formula` that of formulas."""
 
 import sys
 
-from . import console
+from . import console, formula_console
 
-sys.stdout.write(console(sys.stdin.buffer.read()))
+printed = formula_console if sys.argv[1:] == ["--formula"] else console
+sys.stdout.write(printed(sys.stdin.buffer.read()))

@@ -8,6 +8,7 @@ use rules::DwellRefusal;
 use rules::Ending;
 use rules::ForgetRefusal;
 use rules::Forgot;
+use rules::FormulaRefusal;
 use rules::ImageRefusal;
 use rules::Listed;
 use rules::LoadRefusal;
@@ -22,10 +23,11 @@ use rules::SaveRefusal;
 use rules::Saved;
 use rules::Step;
 use rules::TextRefusal;
+use rules::Translated;
 use rules::Why;
 use rules::WhyRefusal;
 ghost use mathlib.Core.Path.{_≡_};
-ghost use Rattle.rules.specs.Numbers.{machineNumber, textNumber, imageNumber, numberOfReset, numberOfStep, numberOfEnding, numberOfAssembled, lengthOfAssembled, positionOfAssembled, numberOfListed, lengthOfListed, numberOfPacked, lengthOfPacked, unreadNumber, numberOfDwell, tenthsOfDwell, forgetNumber, numberOfForgot, depthNumber, numberOfChecked, placeOfChecked, saveNumber, numberOfSaved, lengthOfSaved, loadNumber, numberOfLoad, unnamedNumber, numberOfWhy, foundOfWhy, stepOfWhy};
+ghost use Rattle.rules.specs.Numbers.{machineNumber, textNumber, imageNumber, numberOfReset, numberOfStep, numberOfEnding, numberOfAssembled, lengthOfAssembled, positionOfAssembled, numberOfListed, lengthOfListed, numberOfPacked, lengthOfPacked, unreadNumber, numberOfDwell, tenthsOfDwell, forgetNumber, numberOfForgot, depthNumber, numberOfChecked, placeOfChecked, saveNumber, numberOfSaved, lengthOfSaved, loadNumber, numberOfLoad, unnamedNumber, numberOfWhy, foundOfWhy, stepOfWhy, formulaNumber, numberOfTranslated, lengthOfTranslated, depthOfTranslated};
 
 // The number of a refusal of the machine: 1 to 12.
 pub fn machine_number(e: MachineRefusal) -> u32
@@ -148,6 +150,21 @@ pub fn unnamed_number(e: WhyRefusal) -> u32
     match e {
         WhyRefusal::NoSuchCell => 6,
         WhyRefusal::HistoryBroken => 10,
+    }
+}
+
+// The number of a refusal of a translation: 21, 28, 31 and 70 to 73.
+pub fn formula_number(e: FormulaRefusal) -> u32
+    ensures { λ r. ⌜ r ≡ formulaNumber e ⌝ }
+{
+    match e {
+        FormulaRefusal::FormulaTooLong => 21,
+        FormulaRefusal::CostTooHigh => 28,
+        FormulaRefusal::TableLength => 31,
+        FormulaRefusal::FormulaByte => 70,
+        FormulaRefusal::CannotGoOn => 71,
+        FormulaRefusal::NumberTooLarge => 72,
+        FormulaRefusal::NestedTooDeep => 73,
     }
 }
 
@@ -353,5 +370,33 @@ pub fn why_step(why: Why) -> NamedStep
         Why::Named(step) => step,
         Why::NoKeptStep => NO_STEP,
         Why::NotNamed(_) => NO_STEP,
+    }
+}
+
+// The number, the length and the depth of a translation.
+pub fn translated_number(translated: Translated) -> u32
+    ensures { λ r. ⌜ r ≡ numberOfTranslated translated ⌝ }
+{
+    match translated {
+        Translated::Sized(_, _) => 0,
+        Translated::NotTranslated(e) => formula_number(e),
+    }
+}
+
+pub fn translated_length(translated: Translated) -> usize
+    ensures { λ r. ⌜ r ≡ lengthOfTranslated translated ⌝ }
+{
+    match translated {
+        Translated::Sized(length, _) => length,
+        Translated::NotTranslated(_) => 0,
+    }
+}
+
+pub fn translated_depth(translated: Translated) -> usize
+    ensures { λ r. ⌜ r ≡ depthOfTranslated translated ⌝ }
+{
+    match translated {
+        Translated::Sized(_, depth) => depth,
+        Translated::NotTranslated(_) => 0,
     }
 }

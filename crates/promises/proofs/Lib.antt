@@ -41,5 +41,12 @@ pub mod GoesOn
 -- Request l: the newest kept step that wrote a cell.
 pub mod WrittenCells
 pub mod Wrote
+-- Request m: a formula's program.
+pub mod FormulaTables
+pub mod FormulaSteps
+pub mod FormulaTrees
+pub mod Formulas
+pub mod FormulaTokens
+pub mod FormulaTexts
 -- All of them, and those of other crates, each below its sentence.
 mod Theorems

@@ -10,3 +10,5 @@ pub mod Addresses
 pub mod Dwells
 pub mod Delivered
 pub mod Wrote
+pub mod Formulas
+pub mod FormulaTexts

@@ -45,7 +45,7 @@ Words f = (b t : ℕ) → b < 2 ^ 32 → t < 2 ^ 32 → f b t < 2 ^ 32
 modulo-lt : (n : ℕ) → n % 2 ^ 32 < 2 ^ 32
 modulo-lt n = mod-lt n (lit< tt)
 
-word-lt : (z : ℤ) → word z < 2 ^ 32
+pub word-lt : (z : ℤ) → word z < 2 ^ 32
 word-lt (pos n) = modulo-lt n
 word-lt (negsuc n) = omega arith
 

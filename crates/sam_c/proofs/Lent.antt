@@ -46,6 +46,9 @@ set-all r l h = ap (setAll r) (sym (listed l h))
 pub set-one : (a : ℕ) (l : List ℕ) → length l ≡ 1 → set l 0 a ≡ a ∷ []
 set-one a l h = ap (λ (t : List ℕ). set t 0 a) (sym (spelled-all 1 0 l (sym h)))
 
+pub set-two : (a b : ℕ) (l : List ℕ) → length l ≡ 2 → set (set l 0 a) 1 b ≡ a ∷ b ∷ []
+set-two a b l h = ap (λ (t : List ℕ). set (set t 0 a) 1 b) (sym (spelled-all 2 0 l (sym h)))
+
 pub set-four : (a b c d : ℕ) (l : List ℕ) → length l ≡ 4 → set (set (set (set l 0 a) 1 b) 2 c) 3 d ≡ a ∷ b ∷ c ∷ d ∷ []
 set-four a b c d l h = ap (λ (t : List ℕ). set (set (set (set t 0 a) 1 b) 2 c) 3 d) (sym (spelled-all 4 0 l (sym h)))
 

@@ -13,6 +13,7 @@ use Rattle.rules.specs.Outputs.{blanked}
 use Rattle.rules.specs.Assemble.{Assembly, assemble}
 use Rattle.rules.specs.Listing.{Written, list}
 use Rattle.rules.specs.Image.{Filed, pack, unpack}
+use Rattle.rules.specs.Translate.{Translation, translate}
 use Rattle.rules.specs.Reset.{Started, sizeTests, reset}
 use Rattle.rules.specs.Step.{Stepped, step}
 use Rattle.rules.specs.Back.{back}
@@ -22,7 +23,7 @@ use Rattle.rules.specs.Dwell.{dwell}
 use Rattle.rules.specs.Why.{why}
 use Rattle.rules.specs.DepthList.{check}
 use Rattle.rules.specs.SavedState.{Saving, save, entry, Loading, load}
-use Rattle.rules.specs.Numbers.{machineNumber, textNumber, numberOfAssembled, lengthOfAssembled, positionOfAssembled, numberOfListed, lengthOfListed, numberOfPacked, lengthOfPacked, numberOfReset, numberOfStep, registersAfter, numberOfEnding, numberOfDwell, tenthsOfDwell, numberOfForgot, registersForgot, numberOfChecked, placeOfChecked, numberOfSaved, lengthOfSaved, loadNumber, numberOfLoad, numberOfWhy, foundOfWhy, noStep, stepOfWhy}
+use Rattle.rules.specs.Numbers.{machineNumber, textNumber, numberOfAssembled, lengthOfAssembled, positionOfAssembled, numberOfListed, lengthOfListed, numberOfPacked, lengthOfPacked, numberOfReset, numberOfStep, registersAfter, numberOfEnding, numberOfDwell, tenthsOfDwell, numberOfForgot, registersForgot, numberOfChecked, placeOfChecked, numberOfSaved, lengthOfSaved, loadNumber, numberOfLoad, numberOfWhy, foundOfWhy, noStep, stepOfWhy, numberOfTranslated, lengthOfTranslated, depthOfTranslated}
 use Rattle.rules.specs.declared.Position.{Position}
 use Rattle.rules.specs.declared.Registers.{Registers}
 use Rattle.rules.specs.declared.Dwell.{Dwell}
@@ -151,6 +152,12 @@ packCall p image told = ofLength 1 told (packFilled (pack p image)) (untold imag
 
 abbrev pub unpackCall : List ℕ → List ℕ → List ℕ → Filled
 unpackCall image table told = ofLength 1 told (packFilled (unpack image table)) (untold maxProgram told table)
+
+abbrev pub translateFilled : Translation → Filled
+translateFilled a = filled (numberOfTranslated (a .answer)) (lengthOfTranslated (a .answer) ∷ depthOfTranslated (a .answer) ∷ []) (a .table)
+
+abbrev pub translateCall : List ℕ → List ℕ → List ℕ → Filled
+translateCall formula table told = ofLength 2 told (translateFilled (translate formula table)) (untold maxProgram told table)
 
 -- ---- the calls on a machine
 

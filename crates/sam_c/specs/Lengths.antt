@@ -1,7 +1,7 @@
 -- Calls for C that are lent a `told` or registers of another length, beside what else they are refused for: worked by hand from document 01's order of
 -- refusals and its sentence on refused writers, as one list, and the one statement that each holds; antt computes it. Of a why the six values are among it too. Assumes
 -- nothing.
-use Prim.Native.Nat.{ℕ, _+_}
+use Prim.Native.Nat.{ℕ, _+_, _-_}
 use mathlib.Core.Path.{_≡_, refl}
 use mathlib.Core.Bool.{Bool, true, _&&_}
 use mathlib.Core.List.{List, [], _∷_, _++_}
@@ -15,8 +15,9 @@ use Rattle.rules.specs.Sizes.{maxProgram, maxHistory, maxOutput, maxLimit, list
 use Rattle.rules.specs.Table.{Program, program}
 use Rattle.rules.specs.State.{Memory, memory}
 use Rattle.rules.specs.Examples.{programOf, holds}
+use Rattle.rules.specs.Translations.{computed}
 use Rattle.rules.specs.DepthList.{check}
-use Rattle.sam_c.specs.Calls.{Filled, Moved, ofLength, notRegistersSaved, assembleCall, listCall, packCall, unpackCall, resetCall, forgetCall, runCall, depthsCall, loadCall, saveCall, whyCall}
+use Rattle.sam_c.specs.Calls.{Filled, Moved, ofLength, notRegistersSaved, assembleCall, listCall, packCall, unpackCall, translateCall, resetCall, forgetCall, runCall, depthsCall, loadCall, saveCall, whyCall}
 
 -- what stood in every lent place before
 abbrev old : ℕ → List ℕ
@@ -25,9 +26,13 @@ old n = replicate n 7
 abbrev zeros : ℕ → List ℕ
 zeros n = replicate n 0
 
+-- that number, what is told, and that output
+abbrev fills : Filled → (number : ℕ) → List ℕ → List ℕ → Bool
+fills f number told output = eqb (f .number) number && same (f .told) told && same (f .output) output
+
 -- 31, what is told left as it was, and that output
 abbrev isUntold : Filled → List ℕ → List ℕ → Bool
-isUntold f told output = eqb (f .number) 31 && same (f .told) told && same (f .output) output
+isUntold f told output = fills f 31 told output
 
 -- that number, the registers left as they were, and cells, history and output too
 abbrev stays : Moved → ℕ → List ℕ → Memory → Bool
@@ -75,7 +80,7 @@ tells number cell after =
 abbrev saves : (number registers image : ℕ) → (told after left : List ℕ) → Bool
 saves number registers image told after left =
     let f = saveCall (programOf "STOP") (old registers) (memory (old 2) (old 2) (old 3) (old 2)) (old image) told in
-    eqb (f .number) number && same (f .told) after && same (f .output) left
+    fills f number after left
 
 -- a load into that memory with so many registers
 abbrev loads : (number registers : ℕ) → (image : List ℕ) → Memory → Bool
@@ -102,6 +107,13 @@ lengths =
     ∷ isUntold (packCall (program [] 1) (old imageSize) []) [] (zeros imageSize)
     ∷ isUntold (unpackCall [] (old maxProgram) (old 4)) (old 4) (zeros maxProgram)
     ∷ isUntold (unpackCall [] (old 1) (old 2)) (old 2) (old 1)
+    -- "31 comes first and 21 next; a refusal tells zeros and zeroes a table of right length" (02 m), and for a told of another length too; then length and depth are told
+    ∷ isUntold (translateCall (text "a") (old maxProgram) (old 1)) (old 1) (zeros maxProgram)
+    ∷ isUntold (translateCall (text "$") (old maxProgram) (old 3)) (old 3) (zeros maxProgram)
+    ∷ isUntold (translateCall (text "a") (old 2) []) [] (old 2)
+    ∷ fills (translateCall (text "$") (old 2) (old 2)) 31 (zeros 2) (old 2)
+    ∷ fills (translateCall (text "$") (old maxProgram) (old 2)) 70 (zeros 2) (zeros maxProgram)
+    ∷ fills (translateCall (text "a/2") (old maxProgram) (old 2)) 0 (4 ∷ 2 ∷ []) (0x2A00000000 ∷ 0x100000002 ∷ 0x800000000 ∷ zeros (maxProgram - 3))
     -- "Reset: 11 before 10.": no cells, tags of another count, a history of 8,193 places, an output of 257 bytes; then registers of another length
     ∷ resets 11 8 0 0 0 0
     ∷ resets 11 8 2 1 0 2
@@ -151,5 +163,5 @@ lengths =
     ∷ []
 
 pub all-lengths : every lengths ≡ true
-unfolding lengths ofLength notRegistersSaved holds check Records.cutDown Why.why SavedState.save SavedState.stateBits SavedState.registersIn SavedState.columnIn SavedState.bytesIn SavedState.entry SavedState.load
+unfolding lengths ofLength notRegistersSaved holds computed check Records.cutDown Why.why SavedState.save SavedState.stateBits SavedState.registersIn SavedState.columnIn SavedState.bytesIn SavedState.entry SavedState.load
 all-lengths = refl

@@ -15,4 +15,5 @@ mod save;
 mod step;
 mod step_back;
 mod told;
+mod translate;
 mod unpack;

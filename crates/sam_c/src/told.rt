@@ -17,6 +17,15 @@ pub(crate) fn tell(told: &mut [u64], value: usize)
     told[0] = value as u64;
 }
 
+// Tells two values.
+pub(crate) fn tell_both(told: &mut [u64], first: usize, second: usize)
+    requires { ⌜ length (now told) ≡ 2 ⌝ }
+    ensures { λ _. ⌜ now (told .exit) ≡ first ∷ second ∷ [] ⌝ }
+{
+    told[0] = first as u64;
+    told[1] = second as u64;
+}
+
 // Tells the count of a program's instructions, and the position of a refusal.
 pub(crate) fn tell_placed(told: &mut [u64], count: usize, position: Position)
     requires { ⌜ length (now told) ≡ 4 ⌝ }
