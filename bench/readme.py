@@ -4,8 +4,8 @@
     readme.py [README]
 
 A command line has four spaces before `./sam --formula`, and is the last of its indented block; the next indented block
-is what it prints. Each is run by a shell in the folder of README, with nothing to read. Exit status 1 where one prints
-something else, or where there is none.
+is what it prints, with status 0. Each is run by a shell in the folder of README, with nothing to read. Exit status 1
+where one prints something else, or where there is none.
 """
 
 import subprocess
@@ -40,7 +40,8 @@ def printed(command, folder):
     answer = subprocess.run(
         command, shell=True, cwd=folder, stdin=subprocess.DEVNULL, stdout=subprocess.PIPE, check=False
     )
-    return answer.stdout.decode("utf-8", "replace")
+    status = "" if answer.returncode == 0 else f"status {answer.returncode}\n"
+    return answer.stdout.decode("utf-8", "replace") + status
 
 
 def is_as_written(command, behind, folder):

@@ -99,7 +99,7 @@ static void judge(void) {
 }
 
 static void translate(void) {
-    number = sam_translate((const uint8_t *)formula, formula_len, table, SAM_TABLE_PLACES, told, 2);
+    number = sam_translate((const uint8_t *)formula, formula_len, table, SAM_TABLE_PLACES, told, SAM_TRANSLATE_TOLD);
 }
 
 /* A packer with a copy of the image, to see that the measurement finds it. */
@@ -261,7 +261,7 @@ struct row {
     const struct cell *cell; /* where the machine is halted, or none */
     size_t most;             /* bytes, by sam.h */
     uint32_t empty, full;    /* the numbers that the call gives */
-    void (*change)(void);    /* of the long program, its list, its machine, its saved state, the cell or the formula */
+    void (*change)(void);    /* of the long program, its list, machine or saved state, the cell, the formula, or none */
 };
 
 /* A program, its image, a machine as the row has it, and its state saved. */

@@ -1155,7 +1155,6 @@ static uint32_t save_broken(size_t image_len, size_t told_len) {
                     output_len, state, image_len, told, told_len);
 }
 
-enum { FORMULA_LENGTH, FORMULA_DEPTH, FORMULA_TOLD }; /* what translate tells */
 
 /* A call, its number where all lengths are right, these lengths, and its output with the bytes of an element. */
 static const struct writer {
@@ -1169,9 +1168,11 @@ static const struct writer {
     {"assemble", assemble_done, 0, SAM_TABLE_PLACES, SAM_ASSEMBLE_TOLD, made_table, sizeof made_table[0]},
     {"assemble a fault", assemble_fault, 23, SAM_TABLE_PLACES, SAM_ASSEMBLE_TOLD, made_table, sizeof made_table[0]},
     {"assemble too long", assemble_too_long, 21, SAM_TABLE_PLACES, SAM_ASSEMBLE_TOLD, made_table, sizeof made_table[0]},
-    {"translate", translate_done, 0, SAM_TABLE_PLACES, FORMULA_TOLD, made_table, sizeof made_table[0]},
-    {"translate a fault", translate_fault, 71, SAM_TABLE_PLACES, FORMULA_TOLD, made_table, sizeof made_table[0]},
-    {"translate too long", translate_too_long, 21, SAM_TABLE_PLACES, FORMULA_TOLD, made_table, sizeof made_table[0]},
+    {"translate", translate_done, 0, SAM_TABLE_PLACES, SAM_TRANSLATE_TOLD, made_table, sizeof made_table[0]},
+    {"translate a fault", translate_fault, 71, SAM_TABLE_PLACES, SAM_TRANSLATE_TOLD, made_table,
+     sizeof made_table[0]},
+    {"translate too long", translate_too_long, 21, SAM_TABLE_PLACES, SAM_TRANSLATE_TOLD, made_table,
+     sizeof made_table[0]},
     {"unpack", unpack_done, 0, SAM_TABLE_PLACES, 1, made_table, sizeof made_table[0]},
     {"unpack an image that ends early", unpack_early, 41, SAM_TABLE_PLACES, 1, made_table, sizeof made_table[0]},
     {"list", list_done, 0, SAM_TEXT_BYTES, 1, text, sizeof text[0]},
@@ -3237,9 +3238,9 @@ static void test_other_programs(void) {
 static uint32_t translate_bytes(const char *formula, size_t size) {
     mark_told();
     memset(table, MARK, sizeof table);
-    uint32_t number = sam_translate((const uint8_t *)formula, size, table, SAM_TABLE_PLACES, told, FORMULA_TOLD);
-    length = told[FORMULA_LENGTH];
-    check_told_marked(FORMULA_TOLD);
+    uint32_t number = sam_translate((const uint8_t *)formula, size, table, SAM_TABLE_PLACES, told, SAM_TRANSLATE_TOLD);
+    length = told[SAM_PROGRAM_LENGTH];
+    check_told_marked(SAM_TRANSLATE_TOLD);
     return number;
 }
 
@@ -3250,16 +3251,16 @@ static void check_formula(const char *formula, const char *source, uint64_t dept
     uint64_t assembled = length;
     memcpy(expected, table, sizeof expected);
     check(formula, 0, translate_bytes(formula, strlen(formula)));
-    check("  length", assembled, told[FORMULA_LENGTH]);
-    check("  depth", depth, told[FORMULA_DEPTH]);
+    check("  length", assembled, told[SAM_PROGRAM_LENGTH]);
+    check("  depth", depth, told[SAM_PROGRAM_DEPTH]);
     check("  another table", 0, (uint64_t)(memcmp(expected, table, sizeof expected) != 0));
 }
 
 /* "a refusal tells zeros and zeroes a table of right length" */
 static void check_no_formula(const char *name, const char *formula, size_t size, uint32_t number) {
     check(name, number, translate_bytes(formula, size));
-    check("  length", 0, told[FORMULA_LENGTH]);
-    check("  depth", 0, told[FORMULA_DEPTH]);
+    check("  length", 0, told[SAM_PROGRAM_LENGTH]);
+    check("  depth", 0, told[SAM_PROGRAM_DEPTH]);
     check("  table not zeroed", 0, others((const uint8_t *)table, SAM_TABLE_PLACES * sizeof table[0], 0));
     check("  written behind", 1, (uint64_t)(table[SAM_TABLE_PLACES] != 0));
 }
@@ -3312,8 +3313,8 @@ static void test_formula_run(void) {
     const char *formula = "2 + 3 * (a - 1)";
     puts("2 + 3 * (a - 1) with a = 4, in just the room that it needs");
     check("  translate", 0, translate_bytes(formula, strlen(formula)));
-    check("  length", 8, told[FORMULA_LENGTH]);
-    check("  depth", 4, told[FORMULA_DEPTH]);
+    check("  length", 8, told[SAM_PROGRAM_LENGTH]);
+    check("  depth", 4, told[SAM_PROGRAM_DEPTH]);
     for (size_t places = 0; places <= 15; places += 15) {
         begin_formula(values, SAM_NAMES + 4 + 1, places);
         check("  run", 0, run(8));
@@ -3356,14 +3357,14 @@ static void test_worked_formulas(void) {
     puts("numbers of formulas");
     for (size_t i = 0; i < sizeof worked / sizeof worked[0]; i++) {
         check(worked[i].formula, 0, translate_bytes(worked[i].formula, strlen(worked[i].formula)));
-        begin_formula(worked[i].values, SAM_NAMES + (size_t)told[FORMULA_DEPTH] + 1, 2 * (size_t)length - 1);
+        begin_formula(worked[i].values, SAM_NAMES + (size_t)told[SAM_PROGRAM_DEPTH] + 1, 2 * (size_t)length - 1);
         check("  run", worked[i].number, run(length));
         if (worked[i].number == 0) check_cell("  the number", SAM_NAMES, SAM_INT, (uint32_t)worked[i].value);
         check_names(worked[i].values);
     }
 }
 
-/* Tokens that meet no, one or more refusals: the first counts, in the order 70, 71, 72, 73, 28. */
+/* Tokens that meet one or more refusals: the first counts, in the order 70, 71, 72, 73, 28. */
 static const struct { const char *formula; uint32_t number; } no_formulas[] = {
     {"$", 70}, {"i", 70}, {"A", 70}, {"a\t", 70}, {"a\n", 70}, {"a\r", 70}, {"a%b", 70}, {"a$", 70},
     {"a+$", 70}, {"1.5", 70}, {"\xe1", 70},
@@ -3403,7 +3404,7 @@ static void check_sum(const char *name, size_t more, const char *behind, uint32_
         return;
     }
     check(name, 0, translate_bytes(formula, strlen(formula)));
-    check("  length", SAM_TABLE_PLACES, told[FORMULA_LENGTH]);
+    check("  length", SAM_TABLE_PLACES, told[SAM_PROGRAM_LENGTH]);
     check("  STOP", 0, table[SAM_TABLE_PLACES - 1]);
 }
 
@@ -3429,16 +3430,16 @@ static void test_long_formulas(void) {
     check("  8 of each", 0, translate_bytes("-(-(-(-(-(-(-(-(a))))))))", 25));
     check("  20 signs, one after another", 0,
           translate_bytes("-a+-a+-a+-a+-a+-a+-a+-a+-a+-a+-a+-a+-a+-a+-a+-a+-a+-a+-a+-a", 59));
-    check("  length", 80, told[FORMULA_LENGTH]);
-    check("  depth", 3, told[FORMULA_DEPTH]);
+    check("  length", 80, told[SAM_PROGRAM_LENGTH]);
+    check("  depth", 3, told[SAM_PROGRAM_DEPTH]);
     repeated("a+b*(", 16);
     check("  the deepest", 0, translate_bytes(large, strlen(strcat(large, "a+b*c))))))))))))))))"))));
-    check("  length", 70, told[FORMULA_LENGTH]);
-    check("  depth", 35, told[FORMULA_DEPTH]);
+    check("  length", 70, told[SAM_PROGRAM_LENGTH]);
+    check("  depth", 35, told[SAM_PROGRAM_DEPTH]);
     memset(large, ' ', sizeof large);
     large[0] = 'a';
     check("  65,536 bytes", 0, translate_bytes(large, SAM_SOURCE_LIMIT));
-    check("  length", 2, told[FORMULA_LENGTH]);
+    check("  length", 2, told[SAM_PROGRAM_LENGTH]);
     check_no_formula("  65,537 bytes", large, SAM_SOURCE_LIMIT + 1, 21);
     large[0] = '$';
     check_no_formula("  65,537 bytes, the first forbidden", large, SAM_SOURCE_LIMIT + 1, 21);
@@ -3462,10 +3463,10 @@ static void test_lengths_of_formulas(void) {
             mark_told();
             check(given[i].name, 31,
                   sam_translate((const uint8_t *)given[i].formula, given[i].size, made_table, lengths[j], told,
-                                FORMULA_TOLD));
-            check("  length", 0, told[FORMULA_LENGTH]);
-            check("  depth", 0, told[FORMULA_DEPTH]);
-            check_told_marked(FORMULA_TOLD);
+                                SAM_TRANSLATE_TOLD));
+            check("  length", 0, told[SAM_PROGRAM_LENGTH]);
+            check("  depth", 0, told[SAM_PROGRAM_DEPTH]);
+            check_told_marked(SAM_TRANSLATE_TOLD);
             check("  bytes changed", 0, others((const uint8_t *)made_table, sizeof made_table, MARK));
         }
     }

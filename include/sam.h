@@ -120,6 +120,9 @@ enum { SAM_LENGTH, SAM_PLACE, SAM_LINE, SAM_COLUMN, SAM_ASSEMBLE_TOLD };
  * there, as its table place; and what the cell held before it, tag and bits. */
 enum { SAM_FOUND, SAM_STEPS_BACK, SAM_STEP_PC, SAM_INSTRUCTION, SAM_OLD_TAG, SAM_OLD_BITS, SAM_WHY_TOLD };
 
+/* What translate tells: the program's length, and the most values that it ever holds above the SP it begins with. */
+enum { SAM_PROGRAM_LENGTH, SAM_PROGRAM_DEPTH, SAM_TRANSLATE_TOLD };
+
 /* Assembles a source into a table of 1,024 places. told[4]: length, place, line, column; the last three are 0 where it
  * is done, and with 31 for the table and 21. */
 uint32_t sam_assemble(const uint8_t *source, size_t source_len, uint64_t *table, size_t places, uint64_t *told,

@@ -8,7 +8,7 @@ use lib.ListN.{length, drop, length-append}
 use Rattle.rules.specs.Lists.{splice}
 use Rattle.rules.specs.Sizes.{maxProgram}
 use Rattle.rules.specs.Grammar as Grammar
-use Rattle.rules.specs.Grammar.{Tree, joined, Token, Reading, read, refused, Reader, affordable, isProduct, operator, none, following, chain, operand}
+use Rattle.rules.specs.Grammar.{Tree, joined, Token, Reading, read, refused, affordable, isProduct, operator, none, following, chain, operand}
 use Rattle.rules.specs.Translate.{operation, codeFor, cost, depth}
 use Rattle.rules.specs.declared.Operator.{Operator}
 use Rattle.rules.specs.declared.FormulaRefusal.{FormulaRefusal}
@@ -136,8 +136,8 @@ module _ (f : List ℕ) (sums : Bool) (nesting : ℕ) (before : List ℕ) (w h :
               s ∙ chain-dear (these sums) (side sums (operand nesting)) (g .tree) (q .written + h) (tokensFrom f (q .at)) o (tokensFrom f end) e turns a
 
       module _ (a : affordable (q .written + h + 1) ≡ true) (wrote : List ℕ) (start : Start before w h) where
-        held-one : q .written + (h + 1) ≡ q .written + h + 1
-        held-one = omega arith
+        owed-one : q .written + (h + 1) ≡ q .written + h + 1
+        owed-one = omega arith
 
         pub stood-refused : (c : FormulaRefusal) → side sums (operand nesting) (q .written + (h + 1)) (tokensFrom f end) ≡ refused c → x ≡ refused c
         stood-refused c r = go (g .turns) (g .same) (g .enough)
@@ -147,7 +147,7 @@ module _ (f : List ℕ) (sums : Bool) (nesting : ℕ) (before : List ℕ) (w h :
             go zero s l = absurd (let y : ⊥ = omega (arith, behind) in y)
             go (suc turns) s l =
                 s ∙ chain-refused (these sums) (side sums (operand nesting)) (g .tree) (q .written + h) (tokensFrom f (q .at)) o (tokensFrom f end) e turns a c
-                (ap (λ (n : ℕ). side sums (operand nesting) n (tokensFrom f end)) (sym held-one) ∙ r)
+                (ap (λ (n : ℕ). side sums (operand nesting) n (tokensFrom f end)) (sym owed-one) ∙ r)
 
         -- what is read on, with the operator's tree as the left side
         module _ (p : Reached) (r : ReadTo f (side sums (operand nesting) (q .written + (h + 1)) (tokensFrom f end)) table wrote (q .written) (h + 1) p) where
@@ -161,7 +161,7 @@ module _ (f : List ℕ) (sums : Bool) (nesting : ℕ) (before : List ℕ) (w h :
               → x ≡ chain (these sums) (side sums (operand nesting)) turns (joined o (g .tree) (r .tree)) (p .written + 1 + h) (tokensFrom f (p .at))
           read-on turns s =
               s ∙ chain-more (these sums) (side sums (operand nesting)) (g .tree) (q .written + h) (tokensFrom f (q .at)) o (tokensFrom f end) e turns a
-              (r .tree) (p .written + (h + 1)) (tokensFrom f (p .at)) (ap (λ (n : ℕ). side sums (operand nesting) n (tokensFrom f end)) (sym held-one) ∙ r .reading)
+              (r .tree) (p .written + (h + 1)) (tokensFrom f (p .at)) (ap (λ (n : ℕ). side sums (operand nesting) n (tokensFrom f end)) (sym owed-one) ∙ r .reading)
               ∙ ap (λ (n : ℕ). chain (these sums) (side sums (operand nesting)) turns (joined o (g .tree) (r .tree)) n (tokensFrom f (p .at))) counted
 
           -- the left side's code, the right side's, and the operator

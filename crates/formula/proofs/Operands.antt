@@ -7,7 +7,7 @@ use native.Mathlib.Omega.{arith}
 use lib.ListN.{length}
 use borrow.Author.Tests.{le-leb, lt-leb, leb-true}
 use Rattle.rules.specs.Lists.{splice}
-use Rattle.rules.specs.Sizes.{maxProgram, maxNumber}
+use Rattle.rules.specs.Sizes.{maxProgram, maxInteger}
 use Rattle.rules.specs.Table.{placeOf}
 use Rattle.rules.specs.Grammar as Grammar
 use Rattle.rules.specs.Grammar.{Tree, number, name, negative, Token, sign, opening, Reading, read, refused, Reader, affordable, negated, minus, closedBy, sum, bracketed, tooDeep, operandBy, operand}
@@ -56,8 +56,8 @@ module _ (f : List ℕ) (table : List ℕ) (w h : ℕ) (start : Start table w h)
     unfolding codeFor cost depth
     leaf-by (Number n end) e o =
         pushed-reads (operandBy s b (w + h) ts) (number n) 1 n end refl refl refl
-        (λ a. ap (operandBy s b (w + h)) (e .0) ∙ rw (le-leb n maxNumber (e .1), a)) (λ a. ap (operandBy s b (w + h)) (e .0) ∙ rw (le-leb n maxNumber (e .1), a))
-    leaf-by TooLarge e o = ap (operandBy s b (w + h)) (e .first) ∙ rw (lt-leb (e .total) maxNumber (e .large))
+        (λ a. ap (operandBy s b (w + h)) (e .0) ∙ rw (le-leb n maxInteger (e .1), a)) (λ a. ap (operandBy s b (w + h)) (e .0) ∙ rw (le-leb n maxInteger (e .1), a))
+    leaf-by TooLarge e o = ap (operandBy s b (w + h)) (e .first) ∙ rw (lt-leb (e .total) maxInteger (e .large))
     leaf-by (Name k end) e o =
         pushed-reads (operandBy s b (w + h) ts) (name k) 42 k end refl refl refl
         (λ a. ap (operandBy s b (w + h)) (e .0) ∙ rw a) (λ a. ap (operandBy s b (w + h)) (e .0) ∙ rw a)

@@ -14,18 +14,12 @@ use Rattle.rules.specs.Bytes.{space, zeroDigit}
 use Rattle.rules.specs.Grammar.{Tree, number, name, negative, joined, Token, digits, letter, sign, opening, closing, forbidden, sorted, digit, before, tokens, numberThen, Reading, read, refused, Reader, require, affordable, after, isProduct, isSum, chain, chained, sum, minus, closedBy, bracketed, tooDeep, operandBy, operand, formula, whole, parse}
 use Rattle.rules.specs.declared.Operator.{Operator}
 use Rattle.rules.specs.declared.Operator.the-variants.{Add, Subtract, Multiply, Divide}
-use Rattle.rules.specs.Sizes.{maxNumber}
+use Rattle.rules.specs.Sizes.{maxInteger, nameCells}
 use Rattle.rules.specs.Translate.{cost, depth}
 use Rattle.rules.specs.declared.FormulaRefusal.{FormulaRefusal}
 use Rattle.rules.specs.declared.FormulaRefusal.the-variants.{CostTooHigh}
+use Rattle.formula.specs.Trees.{Proper}
 use Rattle.rules.proofs.Tests.{by-test, and-left, and-right}
-
--- "integers 0 to 2147483647, names a to h"
-abbrev pub Proper : Tree → Type 0
-Proper (number n) = n ≤ maxNumber
-Proper (name k) = k < 8
-Proper (negative t) = Proper t
-Proper (joined o left right) = Proper left × Proper right
 
 -- ---- tokens
 
@@ -33,7 +27,7 @@ Proper (joined o left right) = Proper left × Proper right
 abbrev pub Lettered : List Token → Type 0
 Lettered [] = Unit
 Lettered (digits n ∷ ts) = Lettered ts
-Lettered (letter k ∷ ts) = (k < 8) × Lettered ts
+Lettered (letter k ∷ ts) = (k < nameCells) × Lettered ts
 Lettered (sign o ∷ ts) = Lettered ts
 Lettered (opening ∷ ts) = Lettered ts
 Lettered (closing ∷ ts) = Lettered ts
@@ -155,7 +149,7 @@ module _ (these : Operator → Bool) (most : ℕ) (f : Reader) (good : GoodReade
   chain-good (suc turns) left n (closing ∷ ts) g = g
   chain-good (suc turns) left n (forbidden ∷ ts) g = g
 
--- the left side of an operator is one value more, held under its right side
+-- the left side of an operator is one value more, owed under its right side
 pub chained-good : (these : Operator → Bool) (most : ℕ) (f : Reader) → GoodReader most f → GoodReader (most + 1) (chained these f)
 chained-good these most f good spent ts l =
     after-good most (most + 1) spent spent ts ts (chain these f (length ts)) (f spent ts) (good spent ts l)
@@ -206,7 +200,7 @@ by-good : (most : ℕ) (s b : Reader) → 1 ≤ most → Behind most s → Behin
 unfolding cost depth
 by-good most s b some hs hb spent [] l = tt
 by-good most s b some hs hb spent (digits n ∷ ts) l =
-    require-good most spent (digits n ∷ ts) (leb n maxNumber) _ _
+    require-good most spent (digits n ∷ ts) (leb n maxInteger) _ _
     (λ e. require-good most spent (digits n ∷ ts) (affordable (spent + 1)) CostTooHigh (read (number n) (spent + 1) ts)
     (λ a. record { costs = refl; fits = leb-true _ _ a; proper = leb-true _ _ e; deep = some; shorter = omega arith; lettered = l }))
 by-good most s b some hs hb spent (letter k ∷ ts) l =

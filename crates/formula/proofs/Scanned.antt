@@ -7,7 +7,7 @@ use native.Mathlib.Omega.{arith}
 use lib.Dec.{eqb, leb}
 use lib.ListN.{length, getD, drop, drop-of-length-le}
 use borrow.Author.Tests.{leb-true, le-leb, lt-leb, ne-eqb}
-use Rattle.rules.specs.Sizes.{maxNumber, nameCells}
+use Rattle.rules.specs.Sizes.{maxInteger, nameCells}
 use Rattle.rules.specs.Bytes.{space, zeroDigit}
 use Rattle.rules.specs.Grammar.{Token, digits, letter, sign, opening, closing, forbidden, sorted, digit, before, tokens, numberThen}
 use Rattle.rules.specs.declared.Operator.the-variants.{Add, Subtract, Multiply, Divide}
@@ -81,7 +81,7 @@ number-grows n (b ∷ s) =
     (λ d. rw d (record { total = n; rest = before b (tokens s); first = refl; more = omega arith }))
 
 -- a number that is too large stays so, however many digits follow
-pub above-grown : (n : ℕ) (s : List ℕ) → maxNumber < n → Above (numberThen n s)
+pub above-grown : (n : ℕ) (s : List ℕ) → maxInteger < n → Above (numberThen n s)
 above-grown n s h =
     let g = number-grows n s in
     record { total = g .total; rest = g .rest; first = g .first; large = omega (arith, g .more) }

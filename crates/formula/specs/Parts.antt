@@ -1,5 +1,5 @@
--- How a formula is read and its code written: what is read of it, `held` instructions held back, is what the rules read where `written + held` is spent; STOP, an open
--- unary minus and an operator whose right side is read are held back. Assumes nothing.
+-- How a formula is read and its code written: with `written` instructions in the table and `owed` that were read and do not stand there yet, STOP among them, what is
+-- read is what the rules read where `written + owed` is spent. Assumes nothing.
 use Prim.Native.Nat.{ℕ, _+_, _≤_, max}
 use mathlib.Core.Path.{_≡_}
 use mathlib.Core.Bool.{Bool, true, false, cond}
@@ -11,7 +11,7 @@ use Rattle.rules.specs.Table.{placeOf}
 use Rattle.rules.specs.Grammar.{Tree, Token, Reading, read, refused, Reader, affordable, misplaced, isProduct, chained, closedBy}
 use Rattle.rules.specs.Translate.{operation, negation, codeFor, cost, depth}
 use Rattle.rules.specs.declared.Operator.{Operator}
-use Rattle.rules.specs.declared.FormulaRefusal.the-variants.{CostTooHigh, FormulaByte, CannotGoOn, NumberTooLarge}
+use Rattle.rules.specs.declared.FormulaRefusal.the-variants.{CostTooHigh, NumberTooLarge}
 use Rattle.rules.specs.declared.Translated.{Translated}
 use Rattle.rules.specs.declared.Translated.the-variants.{Sized, NotTranslated}
 use Rattle.formula.specs.declared.parts.Reached.{Reached}
@@ -19,28 +19,28 @@ use Rattle.formula.specs.declared.parts.Part.{Part}
 use Rattle.formula.specs.declared.parts.Part.the-variants.{Read, Unread}
 use Rattle.formula.specs.declared.scan.Next.{Next}
 use Rattle.formula.specs.declared.scan.Next.the-variants.{Number, TooLarge, Name, Sign, Opening, Closing, Forbidden, End}
-use Rattle.formula.specs.Scans.{tokensFrom, these}
+use Rattle.formula.specs.Scans.{tokensFrom, misplacedBy, these}
 
 -- ---- what is read
 
 -- the tree that was read: its code is written, and the tokens that are left are those from the place that was reached
-pub record ReadTo (f : List ℕ) (x : Reading) (before after : List ℕ) (written held : ℕ) (q : Reached) : Type 0 where
+pub record ReadTo (f : List ℕ) (x : Reading) (before after : List ℕ) (written owed : ℕ) (q : Reached) : Type 0 where
   pub tree : Tree
-  pub reading : x ≡ read tree (q .written + held) (tokensFrom f (q .at))
+  pub reading : x ≡ read tree (q .written + owed) (tokensFrom f (q .at))
   pub code : after ≡ splice before written (codeFor tree)
   pub count : q .written ≡ written + cost tree
   pub deep : q .depth ≡ depth tree
-  pub fits : q .written + held ≤ maxProgram
+  pub fits : q .written + owed ≤ maxProgram
 
-abbrev pub Reads : List ℕ → Reading → (before after : List ℕ) → (written held : ℕ) → Part → Type 0
-Reads f x before after written held (Read q) = ReadTo f x before after written held q
-Reads f x before after written held (Unread e) = x ≡ refused e
+abbrev pub Reads : List ℕ → Reading → (before after : List ℕ) → (written owed : ℕ) → Part → Type 0
+Reads f x before after written owed (Read q) = ReadTo f x before after written owed q
+Reads f x before after written owed (Unread e) = x ≡ refused e
 
--- from where it may be read: there is room for what is held back
-pub record Start (table : List ℕ) (written held : ℕ) : Type 0 where
+-- from where it may be read: there is room for what is owed
+pub record Start (table : List ℕ) (written owed : ℕ) : Type 0 where
   pub places : length table ≡ maxProgram
-  pub some : 1 ≤ held
-  pub fits : written + held ≤ maxProgram
+  pub some : 1 ≤ owed
+  pub fits : written + owed ≤ maxProgram
 
 -- one side of an operator of a sum, or of a product; and all that the operators join
 abbrev pub side : (sums : Bool) → Reader → Reader
@@ -63,32 +63,32 @@ Room table (Read q) n = Leaves table q n
 Room table (Unread e) n = Unit
 
 -- a number or a name
-abbrev pub pushed : (end written held : ℕ) → Part
-pushed end written held = cond (affordable (written + held + 1)) (Read (record { at = end; written = written + 1; depth = 1 })) (Unread CostTooHigh)
+abbrev pub pushed : (end written owed : ℕ) → Part
+pushed end written owed = cond (affordable (written + owed + 1)) (Read (record { at = end; written = written + 1; depth = 1 })) (Unread CostTooHigh)
 
-abbrev pub withPushed : List ℕ → (code operand written held : ℕ) → List ℕ
-withPushed table code operand written held = cond (affordable (written + held + 1)) (splice table written (placeOf code operand ∷ [])) table
+abbrev pub withPushed : List ℕ → (code operand written owed : ℕ) → List ℕ
+withPushed table code operand written owed = cond (affordable (written + owed + 1)) (splice table written (placeOf code operand ∷ [])) table
 
 -- an operand that opens nothing, by what stands next
-abbrev pub leafOf : Next → (written held : ℕ) → Part
-leafOf (Number n end) written held = pushed end written held
-leafOf TooLarge written held = Unread NumberTooLarge
-leafOf (Name k end) written held = pushed end written held
-leafOf (Sign o end) written held = Unread CannotGoOn
-leafOf (Opening end) written held = Unread CannotGoOn
-leafOf (Closing end) written held = Unread CannotGoOn
-leafOf Forbidden written held = Unread FormulaByte
-leafOf End written held = Unread CannotGoOn
+abbrev pub leafOf : Next → (written owed : ℕ) → Part
+leafOf (Number n end) written owed = pushed end written owed
+leafOf TooLarge written owed = Unread NumberTooLarge
+leafOf (Name k end) written owed = pushed end written owed
+leafOf (Sign o end) written owed = Unread (misplacedBy (Sign o end))
+leafOf (Opening end) written owed = Unread (misplacedBy (Opening end))
+leafOf (Closing end) written owed = Unread (misplacedBy (Closing end))
+leafOf Forbidden written owed = Unread (misplacedBy Forbidden)
+leafOf End written owed = Unread (misplacedBy End)
 
-abbrev pub withLeaf : List ℕ → Next → (written held : ℕ) → List ℕ
-withLeaf table (Number n end) written held = withPushed table 1 n written held
-withLeaf table TooLarge written held = table
-withLeaf table (Name k end) written held = withPushed table 42 k written held
-withLeaf table (Sign o end) written held = table
-withLeaf table (Opening end) written held = table
-withLeaf table (Closing end) written held = table
-withLeaf table Forbidden written held = table
-withLeaf table End written held = table
+abbrev pub withLeaf : List ℕ → Next → (written owed : ℕ) → List ℕ
+withLeaf table (Number n end) written owed = withPushed table 1 n written owed
+withLeaf table TooLarge written owed = table
+withLeaf table (Name k end) written owed = withPushed table 42 k written owed
+withLeaf table (Sign o end) written owed = table
+withLeaf table (Opening end) written owed = table
+withLeaf table (Closing end) written owed = table
+withLeaf table Forbidden written owed = table
+withLeaf table End written owed = table
 
 -- unary minus behind its operand
 abbrev pub negatedTo : Part → Part

@@ -5,7 +5,7 @@ use mathlib.Core.Bool.{Bool, true, false, cond}
 use mathlib.Core.List.{List, [], _∷_}
 use lib.Dec.{eqb}
 use lib.ListN.{length, getD, drop}
-use Rattle.rules.specs.Sizes.{maxNumber, nameCells}
+use Rattle.rules.specs.Sizes.{maxInteger, nameCells}
 use Rattle.rules.specs.Bytes.{space}
 use Rattle.rules.specs.Grammar.{Token, digits, letter, sign, opening, closing, forbidden, tokens, numberThen, isSum, isProduct}
 use Rattle.rules.specs.declared.Operator.{Operator}
@@ -36,11 +36,11 @@ pub record Above (ts : List Token) : Type 0 where
   pub total : ℕ
   pub rest : List Token
   pub first : ts ≡ digits total ∷ rest
-  pub large : maxNumber < total
+  pub large : maxInteger < total
 
 -- what stands first among the tokens, and where the next one may start
 abbrev pub Stands : List ℕ → List Token → Next → Type 0
-Stands f ts (Number n end) = (ts ≡ digits n ∷ tokensFrom f end) × (n ≤ maxNumber)
+Stands f ts (Number n end) = (ts ≡ digits n ∷ tokensFrom f end) × (n ≤ maxInteger)
 Stands f ts TooLarge = Above ts
 Stands f ts (Name k end) = (ts ≡ letter k ∷ tokensFrom f end) × (k < nameCells)
 Stands f ts (Sign o end) = ts ≡ sign o ∷ tokensFrom f end
@@ -51,7 +51,7 @@ Stands f ts End = ts ≡ []
 
 -- what it tells fits an instruction
 abbrev pub Small : Next → Type 0
-Small (Number n end) = n ≤ maxNumber
+Small (Number n end) = n ≤ maxInteger
 Small TooLarge = Unit
 Small (Name k end) = k < nameCells
 Small (Sign o end) = Unit

@@ -11,6 +11,9 @@ mod parts;
 mod reading;
 mod scan;
 
+// Before anything is read STOP is owed.
+const STOP_OWED: usize = 1;
+
 ghost use mathlib.Core.Path.{_≡_};
 ghost use Rattle.rules.specs.Translate.{translate};
 ghost use Rattle.formula.specs.Parts.{Stoppable, Ended};
@@ -45,7 +48,15 @@ pub fn translate(formula: &[u8], table: &mut [u64]) -> Translated
     if formula.len() > sizes::MAX_SOURCE {
         return Translated::NotTranslated(FormulaRefusal::FormulaTooLong);
     }
-    let sum = reading::chain(formula, table, 0, 0, 1, sizes::MAX_NESTING, true);
+    let sum = reading::chain(
+        formula,
+        table,
+        0,
+        0,
+        STOP_OWED,
+        sizes::MAX_NESTING,
+        reading::SUM,
+    );
     let answer = end(formula, sum);
     match answer {
         Translated::NotTranslated(_) => lent::clear_places(table),

@@ -41,19 +41,20 @@ fn place_of(operator: Operator) -> u64
     }
 }
 
-// A number or a name, whose token ends at `end`: one instruction, where it is not one too many with those that are held back.
+// A number or a name, whose token ends at `end`: one instruction, where it is not one too many with those that are owed. It never is, since before an operand the
+// cost so far is odd; the rule asks it of every token.
 fn push(
     table: &mut [u64],
     code: usize,
     operand: usize,
     end: usize,
     written: usize,
-    held: usize,
+    owed: usize,
 ) -> Part
-    requires { ⌜ Start (now table) written held × (code < 64) × (operand < 2 ^ 32) ⌝ }
-    ensures { λ r. ⌜ (r ≡ pushed end written held) × (now (table .exit) ≡ withPushed (now (table .entry)) code operand written held) ⌝ }
+    requires { ⌜ Start (now table) written owed × (code < 64) × (operand < 2 ^ 32) ⌝ }
+    ensures { λ r. ⌜ (r ≡ pushed end written owed) × (now (table .exit) ≡ withPushed (now (table .entry)) code operand written owed) ⌝ }
 {
-    if written + held >= sizes::MAX_PROGRAM {
+    if written + owed >= sizes::MAX_PROGRAM {
         return Part::Unread(FormulaRefusal::CostTooHigh);
     }
     table[written] = (code as u64) * CODE_WEIGHT + (operand as u64);
@@ -65,14 +66,14 @@ fn push(
 }
 
 // An operand that opens nothing: a number or a name, or something that has no place here.
-pub(crate) fn leaf(table: &mut [u64], next: Next, written: usize, held: usize) -> Part
-    requires { ⌜ Start (now table) written held × Small next ⌝ }
-    ensures { λ r. ⌜ (r ≡ leafOf next written held) × (now (table .exit) ≡ withLeaf (now (table .entry)) next written held) ⌝ }
+pub(crate) fn leaf(table: &mut [u64], next: Next, written: usize, owed: usize) -> Part
+    requires { ⌜ Start (now table) written owed × Small next ⌝ }
+    ensures { λ r. ⌜ (r ≡ leafOf next written owed) × (now (table .exit) ≡ withLeaf (now (table .entry)) next written owed) ⌝ }
 {
     match next {
-        Next::Number(value, end) => push(table, codes::PUSHIMM, value, end, written, held),
+        Next::Number(value, end) => push(table, codes::PUSHIMM, value, end, written, owed),
         Next::TooLarge => Part::Unread(FormulaRefusal::NumberTooLarge),
-        Next::Name(k, end) => push(table, codes::PUSHOFF, k, end, written, held),
+        Next::Name(k, end) => push(table, codes::PUSHOFF, k, end, written, owed),
         other => Part::Unread(scan::misplaced(other)),
     }
 }

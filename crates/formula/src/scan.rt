@@ -66,7 +66,7 @@ fn number(formula: &[u8], start: usize) -> Next
             return Next::Number(value, i);
         }
         value = value * 10 + ((b - b'0') as usize);
-        if value > sizes::MAX_NUMBER {
+        if value > sizes::MAX_INTEGER {
             return Next::TooLarge;
         }
         i += 1;

@@ -13,6 +13,7 @@ use lib.ListN.{length, getD, take, drop}
 use lib.Seq.{length-take-le, getD-at}
 use borrow.Author.Tests.{ltb-true, ltb-false, le-leb, lt-ltb, eq-eqb, ne-eqb}
 use Rattle.rules.specs.Lists.{splice}
+use Rattle.rules.specs.Sizes.{nameCells}
 use Rattle.rules.specs.Tags.{int}
 use Rattle.rules.specs.Words.{signed, word, times, quotient, holds}
 use Rattle.rules.specs.Instructions.{rows, rowOf, actionOf}
@@ -41,7 +42,7 @@ use Rattle.rules.proofs.Tests.{by-test}
 use Rattle.rules.proofs.Narrow.{word-lt}
 use Rattle.rules.proofs.Readings.{signed-plus}
 use Rattle.rules.proofs.Sound.{step-plain}
-use Rattle.formula.proofs.Readings.{Proper}
+use Rattle.formula.specs.Trees.{Proper}
 use Rattle.promises.specs.Series.{State}
 use Rattle.promises.proofs.FormulaTables.{code-of-place, operand-of-place}
 
@@ -53,7 +54,7 @@ module _ (r : Registers) (c : Cells) where
   decide-number n h = rw (code-of-place 1 n h, operand-of-place 1 n h)
 
   -- PUSHOFF
-  pub decide-name : (k : ℕ) → k < 8 → r .fbr ≡ 0 → k < r .sp → decideAt r c (pushName k) ≡ Does (result r 0 (cellAt c (record { 0 = k })))
+  pub decide-name : (k : ℕ) → k < nameCells → r .fbr ≡ 0 → k < r .sp → decideAt r c (pushName k) ≡ Does (result r 0 (cellAt c (record { 0 = k })))
   unfolding decideAt decide actionOf rowOf rows
   decide-name k h f l =
       rw (code-of-place 42 k (omega arith), operand-of-place 42 k (omega arith), f, signed-plus k (omega arith), zero-add k, lt-ltb k (r .sp) l)
@@ -84,7 +85,7 @@ module _ (r : Registers) (c : Cells) where
 abbrev pub judgedAt : Program → State → Decision
 judgedAt p s = judged p (s .registers) (s .memory .cells) (length (s .memory .output))
 
-abbrev pub decidedAt : Program → State → Decision
+abbrev decidedAt : Program → State → Decision
 decidedAt p s = decideAt (s .registers) (s .memory .cells) (getD (p .places) (s .registers .pc) 0)
 
 module _ (p : Program) (s : State) (running : s .registers .halt ≡ 0) (inside : s .registers .pc < p .count) where
@@ -171,7 +172,7 @@ abbrev pub Word : Value → Type 0
 Word (value v) = v < 2 ^ 32
 Word noValue = Unit
 
-pub value-word : (names : ℕ → ℕ) → ((k : ℕ) → k < 8 → names k < 2 ^ 32) → (t : Tree) → Proper t → Word (worth names t)
+pub value-word : (names : ℕ → ℕ) → ((k : ℕ) → k < nameCells → names k < 2 ^ 32) → (t : Tree) → Proper t → Word (worth names t)
 unfolding worth
 value-word names h (number n) p = omega arith
 value-word names h (name k) p = h k p

@@ -9,7 +9,7 @@ use lib.ListN.{length, take, replicate, length-append, length-replicate}
 use lib.Seq.{take-at, drop-at}
 use borrow.Author.Tests.{le-leb, eq-eqb}
 use Rattle.rules.specs.Lists.{all}
-use Rattle.rules.specs.Sizes.{maxProgram, maxOffset}
+use Rattle.rules.specs.Sizes.{maxProgram, maxOffset, nameCells}
 use Rattle.rules.specs.Instructions.{rows, rowOf, kindOf, actionOf}
 use Rattle.rules.specs.Table.{placeOf, codeOf, operandOf, soundPlace, isZero, soundTable}
 use Rattle.rules.specs.DepthList.{depthAfter}
@@ -18,7 +18,8 @@ use Rattle.rules.specs.Translate.{stop, pushNumber, pushName, operation, negati
 use Rattle.rules.specs.declared.Operator.{Operator}
 use Rattle.rules.specs.declared.Operator.the-variants.{Add, Subtract, Multiply, Divide}
 use Rattle.rules.proofs.Tests.{and-left, and-right}
-use Rattle.formula.proofs.Readings.{Proper, Accepted}
+use Rattle.formula.specs.Trees.{Proper}
+use Rattle.formula.proofs.Readings.{Accepted}
 use Rattle.formula.proofs.Costs.{program-length, depth-some}
 use Rattle.promises.specs.Formulas.{spBehind, mostHeld}
 
@@ -36,7 +37,7 @@ behind-number : (n sp : ℕ) → n < 2 ^ 32 → spBehind (pushNumber n) sp ≡ s
 unfolding depthAfter actionOf rowOf rows
 behind-number n sp h = rw (code-of-place 1 n h) (omega arith)
 
-behind-name : (k sp : ℕ) → k < 8 → spBehind (pushName k) sp ≡ sp + 1
+behind-name : (k sp : ℕ) → k < nameCells → spBehind (pushName k) sp ≡ sp + 1
 unfolding depthAfter actionOf rowOf rows
 behind-name k sp h = rw (code-of-place 42 k (omega arith)) (omega arith)
 
@@ -101,7 +102,7 @@ module _ (count : ℕ) where
   unfolding soundPlace kindOf rowOf rows
   number-sound n h = rw (code-of-place 1 n h)
 
-  name-sound : (k : ℕ) → k < 8 → soundPlace count (pushName k) ≡ true
+  name-sound : (k : ℕ) → k < nameCells → soundPlace count (pushName k) ≡ true
   unfolding soundPlace kindOf rowOf rows
   name-sound k h = rw (code-of-place 42 k (omega arith), operand-of-place 42 k (omega arith), le-leb k maxOffset (omega arith))
 

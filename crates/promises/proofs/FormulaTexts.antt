@@ -1,21 +1,24 @@
--- Request m: the text of a tree is read as that tree, where its numbers and names, its nesting and its cost are within their bounds. So the grammar turns no such
--- tree away, and reads what the words of the request say. Assumes nothing.
+-- Request m: the text of a tree is translated to the code of that tree, where its numbers and names, its nesting and its cost are within their bounds. So the call
+-- turns no such tree away, and reads what the words of the request say. Assumes nothing.
 use Prim.Native.Nat.{ℕ, zero, suc, _+_, _≤_, max}
 use mathlib.Core.Path.{_≡_, refl, sym, ap, _∙_}
 use mathlib.Core.Bool.{Bool, true, false, cond}
 use mathlib.Core.List.{List, [], _∷_, _++_, append-assoc, append-nil}
 use native.Mathlib.Omega.{arith}
 use lib.ListN.{length, length-append}
-use borrow.Author.Tests.{le-leb}
-use Rattle.rules.specs.Sizes.{maxProgram, maxNumber, maxNesting}
+use borrow.Author.Tests.{le-leb, eq-eqb}
+use Rattle.rules.specs.Sizes.{maxSource, maxProgram, maxInteger, maxNesting}
 use Rattle.rules.specs.Grammar.{Tree, number, name, negative, joined, Token, digits, letter, sign, opening, closing, forbidden, read, Reader, after, isProduct, isSum, operator, none, following, chain, chained, sum, closedBy, operand, formula, whole, parse}
-use Rattle.rules.specs.Translate.{cost}
+use Rattle.rules.specs.Translate.{cost, depth, tableFor, Translation, translation}
 use Rattle.rules.specs.declared.Operator.{Operator}
 use Rattle.rules.specs.declared.Operator.the-variants.{Add, Subtract, Multiply, Divide}
-use Rattle.formula.proofs.Readings.{Proper, Lettered, GoodReader, deepest, operand-good, chained-good}
+use Rattle.rules.specs.declared.Translated.the-variants.{Sized}
+use Rattle.formula.specs.Trees.{Proper}
+use Rattle.formula.proofs.Readings.{Lettered, GoodReader, deepest, operand-good, chained-good}
+use Rattle.formula.proofs.Costs.{program-length, then-parsed}
 use Rattle.formula.proofs.Turns.{chain-ends, chain-more, chain-enough}
-use Rattle.promises.specs.FormulaTexts.{Level, asSum, asProduct, asOperand, enclosed, brackets, tokensOf, oneMore, nesting, textOf}
-use Rattle.promises.proofs.FormulaTokens.{tree-tokens, tree-lettered}
+use Rattle.promises.specs.FormulaTexts.{Level, asSum, asProduct, asOperand, enclosed, brackets, tokensOf, oneMore, nesting, textOf, Bounded, Translatable}
+use Rattle.promises.proofs.FormulaTokens.{tree-tokens, tree-lettered, tree-short}
 
 -- ---- how tokens are read, with any tokens behind them
 
@@ -135,10 +138,10 @@ every-level asSum d t ts h = sum-of-product d t ts (product-of-operand d t ts h)
 every-level asProduct d t ts h = product-of-operand d t ts h
 every-level asOperand d t ts h = h
 
-number-read : (d n : ℕ) → n ≤ maxNumber → AsOperand d (number n) (digits n ∷ [])
+number-read : (d n : ℕ) → n ≤ maxInteger → AsOperand d (number n) (digits n ∷ [])
 unfolding operand cost
-number-read zero n p spent rest c l = rw (le-leb n maxNumber p, le-leb (spent + 1) maxProgram c)
-number-read (suc d) n p spent rest c l = rw (le-leb n maxNumber p, le-leb (spent + 1) maxProgram c)
+number-read zero n p spent rest c l = rw (le-leb n maxInteger p, le-leb (spent + 1) maxProgram c)
+number-read (suc d) n p spent rest c l = rw (le-leb n maxInteger p, le-leb (spent + 1) maxProgram c)
 
 name-read : (d k : ℕ) → AsOperand d (name k) (letter k ∷ [])
 unfolding operand cost
@@ -201,9 +204,24 @@ tree-read (joined Divide left right) p l d k =
 
 -- ---- a whole formula
 
--- "Expressions nest up to 16 deep", and 1,024 instructions with STOP: every tree within both has a formula
-pub text-read : (t : Tree) → Proper t → nesting asSum t ≤ maxNesting → cost t + 1 ≤ maxProgram → parse (textOf t) ≡ formula t
+-- within the bounds of a formula its text is read as that tree
+text-read : (t : Tree) → Bounded t → parse (textOf t) ≡ formula t
 unfolding parse chain
-text-read t p n c =
-    ap (λ (ts : List Token). whole (sum (operand maxNesting) 1 ts)) (tree-tokens asSum t p ∙ sym (append-nil (tokensOf asSum t)))
-    ∙ ap whole (tree-read t p asSum maxNesting n 1 [] (omega arith) tt refl)
+text-read t b =
+    let c : cost t + 1 ≤ maxProgram = b .fits in
+    ap (λ (ts : List Token). whole (sum (operand maxNesting) 1 ts)) (tree-tokens asSum t (b .proper) ∙ sym (append-nil (tokensOf asSum t)))
+    ∙ ap whole (tree-read t (b .proper) asSum maxNesting (b .nested) 1 [] (omega arith) tt refl)
+
+-- and is short enough for the call, which then writes the code of that tree
+pub every-tree-translated : (t : Tree) → Translatable t
+every-tree-translated t b =
+    let short : length (textOf t) ≤ maxSource = tree-short t (b .fits) in
+    record {
+      read = text-read t b;
+      short = short;
+      taken =
+          λ lent right.
+          then-parsed (textOf t) lent (eq-eqb (length lent) maxProgram right) (le-leb (length (textOf t)) maxSource short)
+          ∙ ap (translation lent) (text-read t b)
+          ∙ ap {B = Translation} (λ (n : ℕ). record { answer = Sized n (depth t); table = tableFor t }) (program-length t);
+    }

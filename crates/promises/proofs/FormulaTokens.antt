@@ -1,23 +1,25 @@
--- Request m: the tokens of a tree, as bytes with a space behind each, are read as those tokens. Assumes nothing.
+-- Request m: the tokens of a tree, as bytes with a space behind each, are read as those tokens, and are not too many for a source. Assumes nothing.
 use Prim.Native.Nat.{ℕ, _+_, _-_, _*_, _^_, _≤_, _<_}
 use mathlib.Core.Path.{_≡_, refl, sym, ap, _∙_, subst}
 use mathlib.Core.Bool.{Bool, true, false, cond, _&&_, false≢true}
 use mathlib.Core.List.{List, [], _∷_, _++_}
 use native.Mathlib.Omega.{arith}
 use lib.Dec.{leb, ltb}
-use lib.ListN.{length}
+use lib.ListN.{length, length-append}
 use borrow.Author.Tests.{le-leb, leb-true, ltb-true, lt-leb, ne-eqb}
-use Rattle.rules.specs.Sizes.{maxNumber}
+use Rattle.rules.specs.Sizes.{maxSource, maxProgram, maxInteger, nameCells}
 use Rattle.rules.specs.Bytes.{space, zeroDigit}
 use Rattle.rules.specs.Operands.{digitOf, allDigits, numeral}
 use Rattle.rules.specs.Listing.{decimal}
 use Rattle.rules.specs.Grammar.{Tree, number, name, negative, joined, Token, digits, letter, sign, opening, closing, forbidden, sorted, digit, before, tokens, numberThen, isSum}
+use Rattle.rules.specs.Translate.{cost}
 use Rattle.rules.specs.declared.Operator.{Operator}
 use Rattle.rules.specs.declared.Operator.the-variants.{Add, Subtract, Multiply, Divide}
 use Rattle.rules.proofs.Tests.{by-test, and-left, and-right}
-use Rattle.rules.proofs.Texts.{decimal-some, numeral-decimal, digits-decimal}
-use Rattle.formula.proofs.Readings.{Proper, Lettered, tokens-lettered}
-use Rattle.promises.specs.FormulaTexts.{Level, asOperand, enclosed, leftOf, rightOf, brackets, tokensOf, signByte, spelled}
+use Rattle.rules.proofs.Texts.{length-decimal, decimal-some, numeral-decimal, digits-decimal}
+use Rattle.formula.specs.Trees.{Proper}
+use Rattle.formula.proofs.Readings.{Lettered, tokens-lettered}
+use Rattle.promises.specs.FormulaTexts.{Level, asSum, asOperand, enclosed, leftOf, rightOf, brackets, tokensOf, signByte, bytesOf, spelled, textOf}
 
 -- ---- digits
 
@@ -57,14 +59,14 @@ number-token (b ∷ ds) h some s =
 -- with numbers and names in their ranges
 abbrev Spelt : List Token → Type 0
 Spelt [] = Unit
-Spelt (digits n ∷ ts) = (n ≤ maxNumber) × Spelt ts
-Spelt (letter k ∷ ts) = (k < 8) × Spelt ts
+Spelt (digits n ∷ ts) = (n ≤ maxInteger) × Spelt ts
+Spelt (letter k ∷ ts) = (k < nameCells) × Spelt ts
 Spelt (sign o ∷ ts) = Spelt ts
 Spelt (opening ∷ ts) = Spelt ts
 Spelt (closing ∷ ts) = Spelt ts
 Spelt (forbidden ∷ ts) = Spelt ts
 
-letter-token : (k : ℕ) → k < 8 → (s : List ℕ) → tokens ((97 + k) ∷ (space ∷ s)) ≡ letter k ∷ tokens s
+letter-token : (k : ℕ) → k < nameCells → (s : List ℕ) → tokens ((97 + k) ∷ (space ∷ s)) ≡ letter k ∷ tokens s
 unfolding tokens before digit sorted
 letter-token k h s =
     let e : 97 + k - 97 ≡ k = omega arith in
@@ -127,3 +129,39 @@ tree-tokens l t p = tokens-spelled (tokensOf l t) (tree-spelt l t p)
 -- so its names are in their range, as those of every text are
 pub tree-lettered : (l : Level) (t : Tree) → Proper t → Lettered (tokensOf l t)
 tree-lettered l t p = subst Lettered (tree-tokens l t p) (tokens-lettered (spelled (tokensOf l t)))
+
+-- ---- how long a text is
+
+token-short : (t : Token) → length (bytesOf t) ≤ 10
+token-short (digits n) = length-decimal 9 n
+token-short (letter k) = omega arith
+token-short (sign o) = omega arith
+token-short opening = omega arith
+token-short closing = omega arith
+token-short forbidden = omega arith
+
+spelled-short : (ts : List Token) → length (spelled ts) ≤ 11 * length ts
+unfolding spelled
+spelled-short [] = omega arith
+spelled-short (t ∷ ts) = omega (arith, length-append (bytesOf t) (space ∷ spelled ts), token-short t, spelled-short ts)
+
+brackets-few : (b : Bool) (ts : List Token) → length (brackets b ts) ≤ length ts + 2
+brackets-few true ts = omega (arith, length-append ts (closing ∷ []))
+brackets-few false ts = omega arith
+
+-- three tokens an instruction are enough: an operator is a sign and two brackets at most
+tree-few : (l : Level) (t : Tree) → length (tokensOf l t) ≤ 3 * cost t
+unfolding tokensOf cost
+tree-few l (number n) = omega arith
+tree-few l (name k) = omega arith
+tree-few l (negative t) = omega (arith, tree-few asOperand t)
+tree-few l (joined o left right) =
+    let a = tree-few (leftOf o) left in
+    let b = tree-few (rightOf o) right in
+    let c = length-append (tokensOf (leftOf o) left) (sign o ∷ tokensOf (rightOf o) right) in
+    let d = brackets-few (enclosed (isSum o) l) (tokensOf (leftOf o) left ++ (sign o ∷ tokensOf (rightOf o) right)) in
+    omega arith
+
+-- so 33 bytes for each of 1,023 instructions are within a source
+pub tree-short : (t : Tree) → cost t + 1 ≤ maxProgram → length (textOf t) ≤ maxSource
+tree-short t h = omega (arith, spelled-short (tokensOf asSum t), tree-few asSum t)

@@ -8,7 +8,7 @@ use native.Mathlib.Nat.{add-zero, zero-add, suc-add}
 use native.Mathlib.Omega.{arith}
 use lib.IntN.{negℤ}
 use lib.ListN.{length, getD, replicate, List·getD-append}
-use Rattle.rules.specs.Sizes.{maxProgram}
+use Rattle.rules.specs.Sizes.{maxProgram, nameCells}
 use Rattle.rules.specs.Tags.{int}
 use Rattle.rules.specs.Words.{signed, word}
 use Rattle.rules.specs.Table.{Program}
@@ -30,7 +30,7 @@ use Rattle.rules.specs.declared.MachineRefusal.the-variants.{NoResult}
 use Rattle.rules.proofs.Fair.{Sound}
 use Rattle.rules.proofs.FairEffects.{sound-facts}
 use Rattle.rules.proofs.Sound.{sound-judged}
-use Rattle.formula.proofs.Readings.{Proper}
+use Rattle.formula.specs.Trees.{Proper}
 use Rattle.formula.proofs.Costs.{code-length, depth-some}
 use Rattle.promises.specs.Series.{State}
 use Rattle.promises.specs.Formulas.{Untouched}
@@ -50,7 +50,7 @@ pub goes-start : (p : Program) (k top : ℕ) (s s″ : State) → Goes p k top s
 goes-start p zero top s s″ g = omega (arith, g .0)
 goes-start p (suc k) top s s″ g = omega (arith, g .3)
 
-pub goes-then : (p : Program) (k j a b : ℕ) (s₁ s₂ s₃ : State) → Goes p k a s₁ s₂ → Goes p j b s₂ s₃ → Goes p (k + j) (max a b) s₁ s₃
+abbrev goes-then : (p : Program) (k j a b : ℕ) (s₁ s₂ s₃ : State) → Goes p k a s₁ s₂ → Goes p j b s₂ s₃ → Goes p (k + j) (max a b) s₁ s₃
 goes-then p zero j a b s₁ s₂ s₃ g h =
     let h′ : Goes p j b s₁ s₃ = subst (λ (s : State). Goes p j b s s₃) (sym (g .1)) h in
     let e : b ≡ max a b = omega (arith, g .0, goes-start p j b s₁ s₃ h′) in
@@ -130,7 +130,7 @@ pub record Here (p : Program) (names : ℕ → ℕ) (s : State) (n pc sp free : 
   pub fbr : s .registers .fbr ≡ 0
   pub running : s .registers .halt ≡ 0
   pub room : Free (s .registers) free
-  pub named : (k : ℕ) → k < 8 → cellAt (s .memory .cells) (record { 0 = k }) ≡ int (names k)
+  pub named : (k : ℕ) → k < nameCells → cellAt (s .memory .cells) (record { 0 = k }) ≡ int (names k)
 
 here-move : {p : Program} {names : ℕ → ℕ} {s : State} {n pc sp free : ℕ} (pc′ free′ : ℕ) → Here p names s n pc sp free → pc ≡ pc′ → free′ ≤ free
     → Here p names s n pc′ sp free′
@@ -168,7 +168,7 @@ pub record Stops (p : Program) (s : State) (most top low : ℕ) : Type 0 where
 -- ---- one instruction that pushes a result: k values are popped, to `low`
 pushes : {p : Program} {names : ℕ → ℕ} {s : State} {n pc sp free : ℕ} (k low : ℕ) (c : Cell) (w top : ℕ) → Here p names s n pc sp (2 + free)
     → getD (p .places) pc 0 ≡ w → pc < p .count → decideAt (s .registers) (s .memory .cells) w ≡ Does (result (s .registers) k c) → low + k ≡ sp
-    → 8 ≤ low → low + 1 < n → max sp (low + 1) ≡ top → Then p names s 1 top n (pc + 1) free low c
+    → nameCells ≤ low → low + 1 < n → max sp (low + 1) ≡ top → Then p names s 1 top n (pc + 1) free low c
 unfolding way-one
 pushes {p} {names} {s} {n} {pc} {sp} {free} k low c w top h at inside d popped enough fits high =
     let r : Registers = s .registers in
@@ -266,7 +266,7 @@ stops-within most′ top′ w a b =
     }
 
 -- ---- the code of a tree, from any place of the program and any SP
-module _ (p : Program) (names : ℕ → ℕ) (n : ℕ) (words : (k : ℕ) → k < 8 → names k < 2 ^ 32) where
+module _ (p : Program) (names : ℕ → ℕ) (n : ℕ) (words : (k : ℕ) → k < nameCells → names k < 2 ^ 32) where
   -- what its steps come to, by its value: it is on top, SP one higher, and the cells below are as they were; or there is no result
   abbrev pub Outcome : Tree → State → (pc sp free : ℕ) → Value → Type 0
   Outcome t s pc sp free (value v) = Then p names s (cost t) (sp + depth t) n (pc + cost t) free sp (int v)
@@ -274,7 +274,7 @@ module _ (p : Program) (names : ℕ → ℕ) (n : ℕ) (words : (k : ℕ) → k 
 
   abbrev Works : Tree → Type 0
   Works t =
-      (s : State) (pc sp free : ℕ) → Here p names s n pc sp (2 * cost t + free) → 8 ≤ sp → sp + depth t < n → Lies p pc (codeFor t)
+      (s : State) (pc sp free : ℕ) → Here p names s n pc sp (2 * cost t + free) → nameCells ≤ sp → sp + depth t < n → Lies p pc (codeFor t)
       → Outcome t s pc sp free (worth names t)
 
   -- ---- one operator, on the INTs at sp and above it
@@ -283,7 +283,7 @@ module _ (p : Program) (names : ℕ → ℕ) (n : ℕ) (words : (k : ℕ) → k 
   Operated s pc sp free (value v) = Then p names s 1 (sp + 2) n (pc + 1) free sp (int v)
   Operated s pc sp free noValue = judgedAt p s ≡ Refuses NoResult
 
-  module _ (o : Operator) (s : State) (pc sp free b t : ℕ) (h : Here p names s n pc (sp + 1 + 1) (2 + free)) (low : 8 ≤ sp) (fits : sp + 1 < n)
+  module _ (o : Operator) (s : State) (pc sp free b t : ℕ) (h : Here p names s n pc (sp + 1 + 1) (2 + free)) (low : nameCells ≤ sp) (fits : sp + 1 < n)
       (at : getD (p .places) pc 0 ≡ operation o) (inside : pc < p .count) (hb : cellAt (s .memory .cells) (record { 0 = sp }) ≡ int b)
       (ht : cellAt (s .memory .cells) (record { 0 = sp + 1 }) ≡ int t) where
     abbrev decision : ℕ → Decision
@@ -322,7 +322,7 @@ module _ (p : Program) (names : ℕ → ℕ) (n : ℕ) (words : (k : ℕ) → k 
       ∙ ap (λ (c : Cell). Does (result (s .registers) 0 c)) (h .named k proper)) (omega arith) low fits (omega arith)
 
   -- TIMES, behind the operand of unary minus and -1
-  negative-last : (t : Tree) (s : State) (pc sp free b : ℕ) → 8 ≤ sp → sp + depth (negative t) < n → Lies p (pc + cost t) negation → b < 2 ^ 32
+  negative-last : (t : Tree) (s : State) (pc sp free b : ℕ) → nameCells ≤ sp → sp + depth (negative t) < n → Lies p (pc + cost t) negation → b < 2 ^ 32
       → (q₁ : Outcome t s pc sp (2 + (2 + free)) (value b))
       → Then p names (q₁ .way .end) 1 (sp + 2) n (pc + cost t + 1) (2 + free) (sp + 1) (int (2 ^ 32 - 1))
       → Outcome (negative t) s pc sp free (value (word (negℤ (signed b))))
@@ -336,7 +336,7 @@ module _ (p : Program) (names : ℕ → ℕ) (n : ℕ) (words : (k : ℕ) → k 
       (then-then q₁ sp (omega arith) (cost t + 2) (sp + max (depth t) 2) (pc + (cost t + 2)) q₂₃ (omega arith) (omega arith) (omega arith))
 
   -- behind the operand of unary minus
-  negative-behind : (t : Tree) (s : State) (pc sp free : ℕ) → 8 ≤ sp → sp + depth (negative t) < n → Lies p (pc + cost t) negation
+  negative-behind : (t : Tree) (s : State) (pc sp free : ℕ) → nameCells ≤ sp → sp + depth (negative t) < n → Lies p (pc + cost t) negation
       → (x : Value) → Word x → Outcome t s pc sp (2 + (2 + free)) x → Outcome (negative t) s pc sp free (andThen (λ b. value (word (negℤ (signed b)))) x)
   unfolding cost depth
   negative-behind t s pc sp free low fits lies noValue w q = stops-within (cost t + 2) (sp + max (depth t) 2) q (omega arith) (omega arith)
@@ -353,7 +353,7 @@ module _ (p : Program) (names : ℕ → ℕ) (n : ℕ) (words : (k : ℕ) → k 
       negative-behind t s pc sp free low fits end (worth names t) (value-word names words t proper)
       (works s pc sp (2 + (2 + free)) (here-move pc (2 * cost t + (2 + (2 + free))) h refl (omega arith)) low (omega arith) (ls .0))
 
-  module _ (o : Operator) (left right : Tree) (s : State) (pc sp free : ℕ) (low : 8 ≤ sp) (fits : sp + depth (joined o left right) < n) where
+  module _ (o : Operator) (left right : Tree) (s : State) (pc sp free : ℕ) (low : nameCells ≤ sp) (fits : sp + depth (joined o left right) < n) where
     -- the operator, behind both sides
     joined-last : (b t : ℕ) (q₁ : Outcome left s pc sp (2 * cost right + (2 + free)) (value b))
         (q₂ : Outcome right (q₁ .way .end) (pc + cost left) (sp + 1) (2 + free) (value t)) → (z : Value)

@@ -4,13 +4,13 @@ use Prim.Native.Nat.{ℕ, zero, suc, _+_, _-_, _*_, _^_, _≤_, _<_, max, zero-l
 use mathlib.Core.Path.{_≡_, refl, sym, ap, _∙_, subst, subst₂}
 use mathlib.Core.Bool.{true, false}
 use mathlib.Core.List.{List, [], _∷_, _++_}
-use mathlib.Core.Logic.{inl, ⊎-elim}
+use mathlib.Core.Logic.{_⊎_, inl, inr, ⊎-elim}
 use native.Mathlib.Nat.{add-zero, zero-add, suc-add}
 use native.Mathlib.Omega.{arith}
 use lib.Dec.{eqb, leb}
 use lib.ListN.{length, getD, replicate, length-append, length-replicate, List·getD-append}
 use borrow.Author.Tests.{ne-eqb, le-leb, leb-true, leb-false}
-use Rattle.rules.specs.Sizes.{maxSource, maxProgram, maxLimit, nameCells}
+use Rattle.rules.specs.Sizes.{maxSource, maxProgram, maxHistory, maxLimit, nameCells}
 use Rattle.rules.specs.Tags.{INT, int}
 use Rattle.rules.specs.Table.{Program}
 use Rattle.rules.specs.State.{memory, sound}
@@ -270,10 +270,11 @@ module _ (t : Tree) (ok : Accepted t) (s : State) (ready : Ready (programFor t) 
   tree-deepest : Deepest p (depth t) (worth names t) s
   tree-deepest = deepest-so (worth names t) outcome
 
--- ---- where it is ready: the eight words as INTs, SP above them, no history and no output
-module _ (t : Tree) (ok : Accepted t) (words : List ℕ) (eight : length words ≡ nameCells) (fit : (k : ℕ) → k < nameCells → getD words k 0 < 2 ^ 32) where
+-- ---- where it is ready: the eight words as INTs, SP above them, nothing kept and no output
+module _ (t : Tree) (ok : Accepted t) (words : List ℕ) (eight : length words ≡ nameCells) (fit : (k : ℕ) → k < nameCells → getD words k 0 < 2 ^ 32)
+    (h : ℕ) (enough : (h ≡ 0) ⊎ (2 * length (instructionsFor t) - 1 ≤ h)) (most : h ≤ maxHistory) where
   abbrev size : ℕ
-  size = 9 + depth t
+  size = nameCells + (1 + depth t)
 
   abbrev bits : List ℕ
   bits = words ++ replicate (1 + depth t) 0
@@ -284,8 +285,8 @@ module _ (t : Tree) (ok : Accepted t) (words : List ℕ) (eight : length words �
   abbrev begun : State
   begun =
       record {
-        registers = record { n = size; h = 0; pc = 0; sp = 8; fbr = 0; halt = 0; used = 0; kept = 0; written = 0 };
-        memory = memory bits tags [] [];
+        registers = record { n = size; h = h; pc = 0; sp = nameCells; fbr = 0; halt = 0; used = 0; kept = 0; written = 0 };
+        memory = memory bits tags (replicate h 0) [];
       }
 
   tagged : (k : ℕ) → getD tags k 0 ≡ INT
@@ -301,10 +302,10 @@ module _ (t : Tree) (ok : Accepted t) (words : List ℕ) (eight : length words �
         table = table-sound t ok;
         some = omega arith;
         few = omega (arith, ok .shallow);
-        short = zero-le;
+        short = most;
         bits = omega (arith, length-append words (replicate (1 + depth t) 0), length-replicate {A = ℕ} (1 + depth t) 0, eight);
         tags = length-replicate size 0;
-        history = refl;
+        history = length-replicate h 0;
         sp = omega arith;
         fbr = omega arith;
         pc = zero-le;
@@ -328,7 +329,7 @@ module _ (t : Tree) (ok : Accepted t) (words : List ℕ) (eight : length words �
         ints = λ k l. tagged k;
         words = λ k l. omega (arith, names-begun k l, fit k l);
         room = omega arith;
-        history = inl refl;
+        history = ⊎-elim (λ z. inl z) (λ l. inr (omega arith)) enough;
       }
 
 -- ---- every formula that is translated
@@ -345,7 +346,13 @@ module _ (source : List ℕ) where
         healthy = table-sound t ok;
         runs = λ limit s ready long short. tree-runs t ok s ready limit long short;
         holds = λ s ready. tree-deepest t ok s ready;
-        somewhere = λ words eight fit. (begun t ok words eight fit, ready-begun t ok words eight fit, names-begun t ok words eight fit);
+        somewhere =
+            λ words eight fit h enough most. (
+              begun t ok words eight fit h enough most,
+              ready-begun t ok words eight fit h enough most,
+              names-begun t ok words eight fit h enough most,
+              refl,
+            );
       }
 
   module _ (lent : List ℕ) (count deep : ℕ) where

@@ -116,6 +116,6 @@ use Rattle.rules.specs.Questions.{all-answered}
 -- ---- Request m: "a plain run leaves the formula's number on top and all eight cells as they were, with arithmetic as in document 01; it meets 5 exactly when the formula divides by zero. .. The depth told with it is the most values it ever holds above the SP it began with."
 
 use Rattle.promises.proofs.Formulas.{worked-out}
--- "with * and / before + and -, all four grouping to the left, unary minus before them all": a tree, written with brackets only where these words need them, is read as that tree
-use Rattle.promises.proofs.FormulaTexts.{text-read}
+-- "with * and / before + and -, all four grouping to the left, unary minus before them all": a tree, written with brackets only where these words need them, is translated to the code of that tree
+use Rattle.promises.proofs.FormulaTexts.{every-tree-translated}
 use Rattle.rules.specs.Translations.{all-translated}

@@ -1,14 +1,20 @@
 -- Request m: "with * and / before + and -, all four grouping to the left, unary minus before them all; spaces are allowed": how a tree is written as a formula, with
--- brackets only where these words need them. proofs/FormulaTexts.antt shows that what is so written is read as that tree. Assumes nothing.
-use Prim.Native.Nat.{ℕ, suc, _+_, max}
+-- brackets only where these words need them; and what is promised of that text, which proofs/FormulaTexts.antt shows. Assumes nothing.
+use Prim.Native.Nat.{ℕ, suc, _+_, _≤_, max}
 use Prim.Native.Char.{code}
+use mathlib.Core.Path.{_≡_}
 use mathlib.Core.Bool.{Bool, true, false}
 use mathlib.Core.List.{List, [], _∷_, _++_}
+use lib.ListN.{length}
+use Rattle.rules.specs.Sizes.{maxSource, maxProgram, maxNesting}
 use Rattle.rules.specs.Bytes.{space}
 use Rattle.rules.specs.Listing.{decimal}
-use Rattle.rules.specs.Grammar.{Tree, number, name, negative, joined, Token, digits, letter, sign, opening, closing, forbidden, isSum}
+use Rattle.rules.specs.Grammar.{Tree, number, name, negative, joined, Token, digits, letter, sign, opening, closing, forbidden, isSum, formula, parse}
+use Rattle.rules.specs.Translate.{cost, depth, tableFor, translate}
 use Rattle.rules.specs.declared.Operator.{Operator}
 use Rattle.rules.specs.declared.Operator.the-variants.{Add, Subtract, Multiply, Divide}
+use Rattle.rules.specs.declared.Translated.the-variants.{Sized}
+use Rattle.formula.specs.Trees.{Proper}
 
 -- ---- a tree as tokens
 
@@ -84,3 +90,27 @@ spelled (t ∷ ts) = bytesOf t ++ (space ∷ spelled ts)
 -- the text of a tree
 abbrev pub textOf : Tree → List ℕ
 textOf t = spelled (tokensOf asSum t)
+
+-- ---- what is promised of every tree
+
+-- within the bounds of a formula
+pub record Bounded (t : Tree) : Type 0 where
+  -- "integers 0 to 2147483647, names a to h"
+  pub proper : Proper t
+  -- "Expressions nest up to 16 deep, from 0, unary minus and brackets each adding one."
+  pub nested : nesting asSum t ≤ maxNesting
+  -- "28 this token's cost, with STOP, passes 1,024": none does
+  pub fits : cost t + 1 ≤ maxProgram
+
+-- its text, and the call with it
+pub record Written (t : Tree) : Type 0 where
+  -- the grammar reads it as that tree
+  pub read : parse (textOf t) ≡ formula t
+  -- "Source 0 to 65,536 bytes"
+  pub short : length (textOf t) ≤ maxSource
+  -- so it is refused by no number: into a table of right length, whatever it held, the code of that tree is written, and its length and its depth are told
+  pub taken : (lent : List ℕ) → length lent ≡ maxProgram → translate (textOf t) lent ≡ record { answer = Sized (cost t + 1) (depth t); table = tableFor t }
+
+-- so every tree within the bounds has a formula that is translated to its code
+abbrev pub Translatable : Tree → Type 0
+Translatable t = Bounded t → Written t

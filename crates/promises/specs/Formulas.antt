@@ -7,7 +7,7 @@ use mathlib.Core.Bool.{true}
 use mathlib.Core.Logic.{_⊎_}
 use mathlib.Core.List.{List, [], _∷_}
 use lib.ListN.{length, getD, take}
-use Rattle.rules.specs.Sizes.{maxLimit, nameCells}
+use Rattle.rules.specs.Sizes.{maxHistory, maxLimit, nameCells}
 use Rattle.rules.specs.Tags.{INT, int}
 use Rattle.rules.specs.Instructions.{actionOf}
 use Rattle.rules.specs.Table.{Program, program, codeOf, operandOf, soundTable}
@@ -47,7 +47,7 @@ pub record Ready (p : Program) (deep : ℕ) (s : State) : Type 0 where
 
 -- ---- what a run of it leaves
 
-abbrev pub leftByRun : Ran → State
+abbrev leftByRun : Ran → State
 leftByRun a = record { registers = a .answer .registers; memory = a .memory }
 
 -- "all eight cells as they were", and so every cell below an address, its bits and its tag; and a formula writes no output
@@ -110,6 +110,7 @@ pub record WorkedOut (source table : List ℕ) (count deep : ℕ) : Type 0 where
   pub runs : (limit : ℕ) (s : State) → Ready (program table count) deep s → count ≤ limit → limit ≤ maxLimit
       → Ends (program table count) (worth (namesIn (s .memory)) tree) s (Run.run (program table count) limit (s .registers) (s .memory))
   pub holds : (s : State) → Ready (program table count) deep s → Deepest (program table count) deep (worth (namesIn (s .memory)) tree) s
-  -- there is such a state, whatever the eight words are
+  -- there is such a state, whatever the eight words are, without a history and with one of every length that has room enough
   pub somewhere : (words : List ℕ) → length words ≡ nameCells → ((k : ℕ) → k < nameCells → getD words k 0 < 2 ^ 32)
-      → (s : State) × Ready (program table count) deep s × ((k : ℕ) → k < nameCells → namesIn (s .memory) k ≡ getD words k 0)
+      → (h : ℕ) → (h ≡ 0) ⊎ (2 * count - 1 ≤ h) → h ≤ maxHistory
+      → (s : State) × Ready (program table count) deep s × ((k : ℕ) → k < nameCells → namesIn (s .memory) k ≡ getD words k 0) × (s .registers .h ≡ h)

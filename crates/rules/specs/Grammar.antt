@@ -7,7 +7,7 @@ use mathlib.Core.Bool.{Bool, true, false, cond, _&&_}
 use mathlib.Core.List.{List, [], _∷_}
 use lib.Dec.{eqb, leb}
 use lib.ListN.{length}
-use Rattle.rules.specs.Sizes.{maxProgram, maxNumber, maxNesting}
+use Rattle.rules.specs.Sizes.{maxProgram, maxInteger, maxNesting}
 use Rattle.rules.specs.Bytes.{space, zeroDigit}
 use Rattle.rules.specs.declared.Operator.{Operator}
 use Rattle.rules.specs.declared.Operator.the-variants.{Add, Subtract, Multiply, Divide}
@@ -192,7 +192,7 @@ tooDeep spent ts = refused NestedTooDeep
 abbrev pub operandBy : (behindSign behindBracket : Reader) → Reader
 operandBy s b spent [] = refused (misplaced [])
 operandBy s b spent (digits n ∷ ts) =
-    require (leb n maxNumber) NumberTooLarge (require (affordable (spent + 1)) CostTooHigh (read (number n) (spent + 1) ts))
+    require (leb n maxInteger) NumberTooLarge (require (affordable (spent + 1)) CostTooHigh (read (number n) (spent + 1) ts))
 operandBy s b spent (letter k ∷ ts) = require (affordable (spent + 1)) CostTooHigh (read (name k) (spent + 1) ts)
 operandBy s b spent (sign Add ∷ ts) = refused (misplaced (sign Add ∷ ts))
 operandBy s b spent (sign Subtract ∷ ts) = s spent ts

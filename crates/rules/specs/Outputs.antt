@@ -1,4 +1,4 @@
--- Document 01, "Numbers given back": what a refused writer (assembler, lister, packer, unpacker) leaves in the output that it was lent. Assumes nothing.
+-- Document 01, "Numbers given back": what a refused writer (assembler, lister, packer, unpacker, saver, translator) leaves in the output that it was lent. Assumes nothing.
 use Prim.Native.Nat.{ℕ}
 use mathlib.Core.Bool.{cond}
 use mathlib.Core.List.{List}

@@ -1,6 +1,6 @@
 -- Document 02, letter m: formulas worked by hand from its words, as one list, and the one statement that each of them is translated, or refused, so; antt computes
 -- it. What a formula becomes is told as a source of the assembler, so that its code is compared by the instructions' names. Assumes nothing.
-use Prim.Native.Nat.{ℕ, zero, suc, _-_}
+use Prim.Native.Nat.{ℕ, zero, suc, _+_, _-_}
 use Prim.Native.String.{String}
 use mathlib.Core.Path.{_≡_, refl}
 use mathlib.Core.Bool.{Bool, true, false, _&&_}
@@ -12,8 +12,8 @@ use Rattle.rules.specs.Grammar as Grammar
 use Rattle.rules.specs.Evaluate as Evaluate
 use Rattle.rules.specs.Translate as Translate
 use Rattle.rules.specs.Lists.{text, every, same}
-use Rattle.rules.specs.Sizes.{maxProgram, nameCells}
-use Rattle.rules.specs.Bytes.{tab, LF}
+use Rattle.rules.specs.Sizes.{maxProgram, maxSource, nameCells}
+use Rattle.rules.specs.Bytes.{space, tab, CR, LF}
 use Rattle.rules.specs.Words.{word}
 use Rattle.rules.specs.Numbers.{numberOfTranslated, lengthOfTranslated, depthOfTranslated}
 use Rattle.rules.specs.Examples.{holds}
@@ -48,14 +48,14 @@ abbrev tells : Translation → (number length depth : ℕ) → Bool
 tells a number size depth =
     same (numberOfTranslated (a .answer) ∷ lengthOfTranslated (a .answer) ∷ depthOfTranslated (a .answer) ∷ []) (number ∷ size ∷ depth ∷ [])
 
--- the first places are what the source is assembled to
-abbrev holdsCode : List ℕ → Outcome → Bool
-holdsCode table (done ws) = same (take (length ws) table) ws
-holdsCode table (refused e at) = false
+-- the program of that length is what the source is assembled to
+abbrev holdsCode : (length : ℕ) → List ℕ → Outcome → Bool
+holdsCode size table (done ws) = same (take size table) ws
+holdsCode size table (refused e at) = false
 
 -- "a program ending in STOP", of that length and depth
 abbrev becomes : String → String → (length depth : ℕ) → Bool
-becomes s code size depth = let a = computed (text s) lent in tells a 0 size depth && holdsCode (a .table) (translated (text code))
+becomes s code size depth = let a = computed (text s) lent in tells a 0 size depth && holdsCode size (a .table) (translated (text code))
 
 -- a formula of these bytes has a program of that length and depth
 abbrev measures : List ℕ → (length depth : ℕ) → Bool
@@ -68,6 +68,10 @@ refuses s number = tells (computed s lent) number 0 0
 -- the whole table, after a formula and a table lent to it
 abbrev leavesTable : List ℕ → List ℕ → (number : ℕ) → List ℕ → Bool
 leavesTable s table number after = let a = computed s table in eqb (numberOfTranslated (a .answer)) number && same (a .table) after
+
+-- one byte too many
+abbrev tooLong : List ℕ
+tooLong = replicate (maxSource + 1) space
 
 -- ---- what a formula is worth, with these numbers for the first names and 0 for the others
 
@@ -116,6 +120,7 @@ formulas =
     ∷ becomes "-(a*b)" "PUSHOFF 0 PUSHOFF 1 TIMES PUSHIMM -1 TIMES STOP" 6 2
     ∷ becomes "2*-3" "PUSHIMM 2 PUSHIMM 3 PUSHIMM -1 TIMES TIMES STOP" 6 3
     ∷ becomes "a--b" "PUSHOFF 0 PUSHOFF 1 PUSHIMM -1 TIMES SUB STOP" 6 3
+    ∷ becomes "-(a+(b+c))" "PUSHOFF 0 PUSHOFF 1 PUSHOFF 2 ADD ADD PUSHIMM -1 TIMES STOP" 8 3
     ∷ becomes "--a" "PUSHOFF 0 PUSHIMM -1 TIMES PUSHIMM -1 TIMES STOP" 6 2
     -- "spaces are allowed"; leading zeros too, the value counts
     ∷ becomes "  (  a  )  " "PUSHOFF 0 STOP" 2 1
@@ -136,13 +141,11 @@ formulas =
     ∷ refuses (times 17 "(" ++ text "a" ++ times 17 ")") 73
     ∷ refuses (times 16 "(" ++ text "-a" ++ times 16 ")") 73
     ∷ refuses (times 15 "-" ++ text "(-a)") 73
-    -- "28 this token's cost, with STOP, passes 1,024"
+    -- "28 this token's cost, with STOP, passes 1,024": those of all tokens before it among it
     ∷ measures (text "a" ++ times 511 "+a") 1024 2
     ∷ refuses (text "a" ++ times 511 "+a" ++ text "+") 28
-    ∷ measures (text "-a" ++ times 510 "+a") 1024 2
-    ∷ refuses (text "-a" ++ times 511 "+a") 28
-    ∷ refuses (text "a" ++ times 510 "+a" ++ text "+-a") 28
-    ∷ refuses (text "a" ++ times 510 "+a" ++ text "+(-") 28
+    ∷ measures (text "-(1)" ++ times 510 "+a") 1024 2
+    ∷ refuses (text "-(1)" ++ times 510 "+a" ++ text "+") 28
     -- "70 forbidden byte"
     ∷ refuses (text "$") 70
     ∷ refuses (text "a$") 70
@@ -150,13 +153,22 @@ formulas =
     ∷ refuses (text "A") 70
     ∷ refuses (text "a" ++ tab ∷ text "+b") 70
     ∷ refuses (text "a" ++ LF ∷ []) 70
+    ∷ refuses (text "a" ++ CR ∷ []) 70
+    ∷ refuses (text "`") 70
+    ∷ refuses (text ":") 70
+    ∷ refuses (text "2.5") 70
+    ∷ refuses (text "[a]") 70
+    ∷ refuses (text "(a$") 70
     ∷ refuses (0 ∷ []) 70
+    ∷ refuses (255 ∷ []) 70
     -- "71 the formula cannot go on or end here"
     ∷ refuses [] 71
     ∷ refuses (text "   ") 71
     ∷ refuses (text "a+") 71
     ∷ refuses (text "-") 71
     ∷ refuses (text "+a") 71
+    ∷ refuses (text "*a") 71
+    ∷ refuses (text "/a") 71
     ∷ refuses (text "a*/b") 71
     ∷ refuses (text "ab") 71
     ∷ refuses (text "2a") 71
@@ -164,6 +176,9 @@ formulas =
     ∷ refuses (text "1 2") 71
     ∷ refuses (text "()") 71
     ∷ refuses (text "(a") 71
+    ∷ refuses (text "(a b") 71
+    ∷ refuses (text "(a 2") 71
+    ∷ refuses (text "(a(b") 71
     ∷ refuses (text "a)") 71
     ∷ refuses (text "(a))") 71
     ∷ refuses (text "a(b)") 71
@@ -177,15 +192,12 @@ formulas =
     ∷ refuses (text "$+") 70
     ∷ refuses (times 17 "(" ++ text "$") 73
     ∷ refuses (times 16 "(" ++ text "$") 70
-    ∷ refuses (text "a" ++ times 511 "+a" ++ text "++") 28
-    -- "then in this order": 70, 71, 72, 73 and 28, two at one token
+    ∷ refuses (text "a" ++ times 510 "+a" ++ text "+-2147483648") 28
+    -- "then in this order": 70, 71, 72, 73 and 28, two at one token; 72 and 28 cannot meet where a number may stand
     ∷ refuses (text "a" ++ times 511 "+a" ++ text "$") 70
     ∷ refuses (text "1 2147483648") 71
     ∷ refuses (times 16 "(" ++ text "a(") 71
     ∷ refuses (text "a" ++ times 511 "+a" ++ text "1") 71
-    ∷ refuses (text "-a" ++ times 510 "+a" ++ text " 2147483648") 71
-    ∷ refuses (text "a" ++ times 510 "+a" ++ text "+-2147483648") 28
-    ∷ refuses (text "-a+-a" ++ times 507 "+a" ++ text "+2147483648") 72
     ∷ refuses (times 16 "(" ++ text "a" ++ times 510 "+a" ++ text "+-") 73
     -- "with arithmetic as in document 01"
     ∷ gives "2 + 3 * (a - 1)" (pos 4 ∷ []) (pos 11)
@@ -206,11 +218,14 @@ formulas =
     ∷ divides "a/b" (pos 3 ∷ [])
     ∷ divides "0/0" []
     ∷ divides "0*(1/0)" []
+    ∷ divides "1/0+2" []
+    ∷ divides "(1/0)*0" []
     ∷ divides "1/(a-a)" (pos 9 ∷ [])
     ∷ divides "1+-(2/(3/4))" []
-    -- "31 comes first and 21 next"; "zeroes a table of right length", and another stays; unused places are zero
+    -- "31 comes first", before 21 too; "zeroes a table of right length", and another stays; unused places are zero
     ∷ leavesTable (text "$") (replicate (maxProgram - 1) 5) 31 (replicate (maxProgram - 1) 5)
     ∷ leavesTable (text "a") [] 31 []
+    ∷ leavesTable tooLong [] 31 []
     ∷ leavesTable (text "$") lent 70 (replicate maxProgram 0)
     ∷ leavesTable (text "2") lent 0 (4294967298 ∷ replicate (maxProgram - 1) 0)
     ∷ []

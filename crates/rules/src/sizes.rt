@@ -42,7 +42,9 @@ pub const MAX_OFFSET: u32 = 999;
 // The word of -999: those from it on are in range too.
 pub const MIN_OFFSET: u32 = words::MINUS_ONE - (MAX_OFFSET - 1);
 
-// "integers 0 to 2147483647", "Expressions nest up to 16 deep, from 0" (02 m)
-pub const MAX_NUMBER: usize = 2_147_483_647;
+// "integers 0 to 2147483647", "Expressions nest up to 16 deep, from 0", "eight INT cells" (02 m)
+pub const MAX_INTEGER: usize = 2_147_483_647;
 
 pub const MAX_NESTING: usize = 16;
+
+pub const NAME_CELLS: usize = 8;

@@ -1,6 +1,6 @@
 -- Calls for C that are lent a `told` or registers of another length, beside what else they are refused for: worked by hand from document 01's order of
--- refusals and its sentence on refused writers, as one list, and the one statement that each holds; antt computes it. Of a why the six values are among it too. Assumes
--- nothing.
+-- refusals and its sentence on refused writers, as one list, and the one statement that each holds; antt computes it. What a why and a
+-- translation tell is among it too. Assumes nothing.
 use Prim.Native.Nat.{ℕ, _+_, _-_}
 use mathlib.Core.Path.{_≡_, refl}
 use mathlib.Core.Bool.{Bool, true, _&&_}
@@ -11,7 +11,7 @@ use Rattle.rules.specs.Lists.{text, every, same}
 use Rattle.rules.specs.SavedState as SavedState
 use Rattle.rules.specs.Records as Records
 use Rattle.rules.specs.Why as Why
-use Rattle.rules.specs.Sizes.{maxProgram, maxHistory, maxOutput, maxLimit, listingSize, imageSize, stateSize}
+use Rattle.rules.specs.Sizes.{maxSource, maxProgram, maxHistory, maxOutput, maxLimit, listingSize, imageSize, stateSize}
 use Rattle.rules.specs.Table.{Program, program}
 use Rattle.rules.specs.State.{Memory, memory}
 use Rattle.rules.specs.Examples.{programOf, holds}
@@ -112,6 +112,8 @@ lengths =
     ∷ isUntold (translateCall (text "$") (old maxProgram) (old 3)) (old 3) (zeros maxProgram)
     ∷ isUntold (translateCall (text "a") (old 2) []) [] (old 2)
     ∷ fills (translateCall (text "$") (old 2) (old 2)) 31 (zeros 2) (old 2)
+    ∷ fills (translateCall (zeros (maxSource + 1)) (old 2) (old 2)) 31 (zeros 2) (old 2)
+    ∷ fills (translateCall (zeros (maxSource + 1)) (old maxProgram) (old 2)) 21 (zeros 2) (zeros maxProgram)
     ∷ fills (translateCall (text "$") (old maxProgram) (old 2)) 70 (zeros 2) (zeros maxProgram)
     ∷ fills (translateCall (text "a/2") (old maxProgram) (old 2)) 0 (4 ∷ 2 ∷ []) (0x2A00000000 ∷ 0x100000002 ∷ 0x800000000 ∷ zeros (maxProgram - 3))
     -- "Reset: 11 before 10.": no cells, tags of another count, a history of 8,193 places, an output of 257 bytes; then registers of another length

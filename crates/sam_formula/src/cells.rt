@@ -2,11 +2,10 @@
 use rules::Registers;
 use rules::Run;
 use rules::sizes::MAX_PROGRAM;
+use rules::sizes::NAME_CELLS;
+use rules::tags;
 
-// The names a to h, whose cells are the first eight.
-pub(crate) const NAMES: usize = 8;
-
-// Enough for these and for the depth of every formula, which is at most 35 (formula/proofs/Readings).
+// Enough for the names' cells and for the depth of every formula, which is at most 35 (formula/proofs/Readings).
 pub(crate) const CELLS: usize = 64;
 
 const PLACES: usize = 0;
@@ -50,12 +49,30 @@ pub(crate) fn push_numbers(source: &[u8], bits: &mut [u32], tags: &mut [u8]) -> 
     ran.registers
 }
 
-// Whether a source came to its STOP and left as many values as there are names.
-pub(crate) fn are_pushed(registers: Registers) -> bool {
+// Whether the cells of the names are INTs.
+fn are_ints(tags: &[u8; CELLS]) -> bool {
+    let mut i = 0;
+    while i < NAME_CELLS {
+        if tags[i] != tags::INT {
+            return false;
+        }
+        i += 1;
+    }
+    true
+}
+
+// Whether a source came to its STOP and left as many INTs as there are names, and FBR where a formula needs it.
+pub(crate) fn are_pushed(registers: Registers, tags: &[u8; CELLS]) -> bool {
     if registers.halt == 0 {
         return false;
     }
-    registers.sp == NAMES
+    if registers.sp != NAME_CELLS {
+        return false;
+    }
+    if registers.fbr != 0 {
+        return false;
+    }
+    are_ints(tags)
 }
 
 // The registers for a second program on the cells that a first one left.

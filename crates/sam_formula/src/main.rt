@@ -4,6 +4,7 @@ use libc::STDIN_FILENO;
 use rules::Translated;
 use rules::sizes::MAX_PROGRAM;
 use rules::sizes::MAX_SOURCE;
+use rules::sizes::NAME_CELLS;
 use rules::tags;
 
 mod cells;
@@ -29,7 +30,7 @@ fn answer(source: &[u8], formula: &[u8]) {
     let mut bits = [0u32; cells::CELLS];
     let mut tags = [tags::INT; cells::CELLS];
     let pushed = cells::push_numbers(source, &mut bits, &mut tags);
-    if !cells::are_pushed(pushed) {
+    if !cells::are_pushed(pushed, &tags) {
         say::no_numbers();
         return;
     }
@@ -43,7 +44,7 @@ fn answer(source: &[u8], formula: &[u8]) {
             let start = cells::restarted(pushed);
             let ran = cells::run(&table, length, start, &mut bits, &mut tags);
             let ending = ran.ending;
-            say::ending(ending, bits[cells::NAMES]);
+            say::ending(ending, bits[NAME_CELLS]);
         }
     }
 }

@@ -54,7 +54,7 @@ returns-3 c =
 returns-4 : tie.Need-returns-4
 returns-4 c =
     let a = c .before .before .before .args in
-    rw (c .misplaced .ensures) (no-leaf (a .next) (c .before .match .keys4) (a .written) (a .held) (a .table .now))
+    rw (c .misplaced .ensures) (no-leaf (a .next) (c .before .match .keys4) (a .written) (a .owed) (a .table .now))
 
 pub leaf-spec : {M : Type 1} → statement M
 leaf-spec =

@@ -1,4 +1,4 @@
--- `formula::parts::push` meets its contract: one place is written, where there is room for it and for what is held back. Assumes nothing.
+-- `formula::parts::push` meets its contract: one place is written, where there is room for it and for what is owed back. Assumes nothing.
 use Prim.Native.Nat.{_+_}
 use mathlib.Core.Path.{refl}
 use mathlib.Core.List.{[], _∷_}
@@ -17,7 +17,7 @@ returns : tie.Need-returns
 returns c =
     let a = c .before .args in
     let full = c .if1 .taken in
-    rw (lt-leb (a .written + a .held + 1) maxProgram (omega (arith, full))) (refl, refl)
+    rw (lt-leb (a .written + a .owed + 1) maxProgram (omega (arith, full))) (refl, refl)
 
 mul-table : tie.Need-mul-table
 mul-table c = search needs
@@ -41,7 +41,7 @@ returns-2 : tie.Need-returns-2
 returns-2 c =
     let a = c .before .args in
     let few = c .if1 .left in
-    rw (le-leb (a .written + a .held + 1) maxProgram (omega (arith, few)))
+    rw (le-leb (a .written + a .owed + 1) maxProgram (omega (arith, few)))
     (refl, sets-splice (_ ∷ []) (a .table .now) (a .written) (omega (arith, c .before .pre .0 .places, c .before .pre .0 .some, c .before .pre .0 .fits)))
 
 pub push-spec : {M : Type 1} → statement M

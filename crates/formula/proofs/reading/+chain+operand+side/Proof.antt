@@ -161,9 +161,8 @@ module _ (t : ℕ) where
 
   -- where a minus sign, or a bracket, was found
   minus-found : (c : operand-lts.After-opened (operand-calls t) (operand-at t) operand.Post)
-      → Opens (c .before .before .before .before .before .before .args .formula .now)
-      (tokensFrom (c .before .before .before .before .before .before .args .formula .now) (c .before .before .before .before .before .before .args .at))
-      (Minus (c .opened .given .0 .0))
+      → let a = c .before .before .before .before .before .before .args in
+      Opens (a .formula .now) (tokensFrom (a .formula .now) (a .at)) (Minus (c .opened .given .0 .0))
   minus-found c =
       let at-next = c .before .before .before in
       let a = at-next .before .before .before .args in
@@ -172,9 +171,8 @@ module _ (t : ℕ) where
       (stands-opens (a .formula .now) (tokensFrom (a .formula .now) (a .at)) (at-next .next-token .result) (at-next .next-token .ensures))
 
   bracket-found : (c : operand-lts.After-opened2 (operand-calls t) (operand-at t) operand.Post)
-      → Opens (c .before .before .before .before .before .before .args .formula .now)
-      (tokensFrom (c .before .before .before .before .before .before .args .formula .now) (c .before .before .before .before .before .before .args .at))
-      (Bracket (c .opened2 .given .0 .0))
+      → let a = c .before .before .before .before .before .before .args in
+      Opens (a .formula .now) (tokensFrom (a .formula .now) (a .at)) (Bracket (c .opened2 .given .0 .0))
   bracket-found c =
       let at-next = c .before .before .before in
       let a = at-next .before .before .before .args in
@@ -186,7 +184,7 @@ module _ (t : ℕ) where
   operand-returns c =
       let at-opened = c .before .before in
       let a = at-opened .before .before .before .before .before .before .args in
-      minus-deep (a .nesting) (a .written + a .held) (tokensFrom (a .formula .now) (a .at)) (tokensFrom (a .formula .now) (at-opened .opened .given .0 .0))
+      minus-deep (a .nesting) (a .written + a .owed) (tokensFrom (a .formula .now) (a .at)) (tokensFrom (a .formula .now) (at-opened .opened .given .0 .0))
       (c .if1 .taken) (minus-found at-opened)
 
   operand-add-if2 : operand-lts.Need-add-if2 (operand-calls t) (operand-at t) operand.Post
@@ -202,8 +200,8 @@ module _ (t : ℕ) where
       let at-opened = c .before .before .before in
       let a = at-opened .before .before .before .before .before .before .args in
       let dear = c .if2 .taken in
-      minus-dear (a .nesting) (a .written + a .held) (tokensFrom (a .formula .now) (a .at)) (tokensFrom (a .formula .now) (at-opened .opened .given .0 .0))
-      (c .before .if1 .left) (minus-found at-opened) (lt-leb (a .written + a .held + 2) maxProgram dear)
+      minus-dear (a .nesting) (a .written + a .owed) (tokensFrom (a .formula .now) (a .at)) (tokensFrom (a .formula .now) (at-opened .opened .given .0 .0))
+      (c .before .if1 .left) (minus-found at-opened) (lt-leb (a .written + a .owed + 2) maxProgram dear)
 
   operand-add-operand : operand-lts.Need-add-operand (operand-calls t) (operand-at t) operand.Post
   operand-add-operand c =
@@ -227,7 +225,7 @@ module _ (t : ℕ) where
       let start = at-operand .before .before .before .before .before .before .before .before .before .before .before in
       let a = start .args in
       let inner = at-operand .operand in
-      read-room (a .formula .now) _ (a .table .now) (inner .last .1 .0) (a .written) (a .held + 2) 2 (inner .result) (inner .kept .1 .0 ∙ start .pre .1 .places) (omega arith) (inner .ensures)
+      read-room (a .formula .now) _ (a .table .now) (inner .last .1 .0) (a .written) (a .owed + 2) 2 (inner .result) (inner .kept .1 .0 ∙ start .pre .1 .places) (omega arith) (inner .ensures)
 
   operand-enum-known-opened-2 : operand-lts.Need-enum-known-opened-2 (operand-calls t) (operand-at t) operand.Post
   operand-enum-known-opened-2 c = search needs
@@ -236,7 +234,7 @@ module _ (t : ℕ) where
   operand-returns-3 c =
       let at-opened = c .before .before in
       let a = at-opened .before .before .before .before .before .before .args in
-      bracket-deep (a .nesting) (a .written + a .held) (tokensFrom (a .formula .now) (a .at)) (tokensFrom (a .formula .now) (at-opened .opened2 .given .0 .0))
+      bracket-deep (a .nesting) (a .written + a .owed) (tokensFrom (a .formula .now) (a .at)) (tokensFrom (a .formula .now) (at-opened .opened2 .given .0 .0))
       (c .if3 .taken) (bracket-found at-opened)
 
   operand-sub-chain : operand-lts.Need-sub-chain (operand-calls t) (operand-at t) operand.Post
@@ -264,7 +262,7 @@ module _ (t : ℕ) where
       let x = at-next .next-token .result in
       let neither : openedBy x ≡ Neither = sym (at-told .before .before .opening-of .ensures) ∙ at-told .enum-told .given .1 in
       rw (at-leaf .leaf .ensures .0, at-leaf .leaf .ensures .1)
-      (leaf-reads (a .formula .now) (a .table .now) (a .written) (a .held) (start .pre .1) (a .nesting) (tokensFrom (a .formula .now) (a .at)) x
+      (leaf-reads (a .formula .now) (a .table .now) (a .written) (a .owed) (start .pre .1) (a .nesting) (tokensFrom (a .formula .now) (a .at)) x
       (at-next .next-token .ensures) neither)
 
   operand-same-length-2 : operand-lts.Need-same-length-2 (operand-calls t) (operand-at t) operand.Post
@@ -281,9 +279,9 @@ module _ (t : ℕ) where
       let inner = at-operand .operand in
       let few = at-if2 .if2 .left in
       rw (at-negate .negate .ensures .0, at-negate .negate .ensures .1)
-      (minus-reads (a .formula .now) (a .table .now) (inner .last .1 .0) (a .written) (a .held) (start .pre .1) (a .nesting) (tokensFrom (a .formula .now) (a .at))
+      (minus-reads (a .formula .now) (a .table .now) (inner .last .1 .0) (a .written) (a .owed) (start .pre .1) (a .nesting) (tokensFrom (a .formula .now) (a .at))
       (tokensFrom (a .formula .now) (at-opened .opened .given .0 .0)) (at-if2 .before .if1 .left) (minus-found at-opened)
-      (le-leb (a .written + a .held + 2) maxProgram few) (inner .result) (inner .ensures))
+      (le-leb (a .written + a .owed + 2) maxProgram few) (inner .result) (inner .ensures))
 
   operand-same-length-3 : operand-lts.Need-same-length-3 (operand-calls t) (operand-at t) operand.Post
   operand-same-length-3 c = c .before .before .before .chain .kept .1 .0
@@ -295,7 +293,7 @@ module _ (t : ℕ) where
       let start = at-opened .before .before .before .before .before .before in
       let a = start .args in
       let inner = at-chain .chain in
-      bracket-reads (a .formula .now) (a .table .now) (inner .last .1 .0) (a .written) (a .held) (start .pre .1) (a .nesting) (tokensFrom (a .formula .now) (a .at))
+      bracket-reads (a .formula .now) (a .table .now) (inner .last .1 .0) (a .written) (a .owed) (start .pre .1) (a .nesting) (tokensFrom (a .formula .now) (a .at))
       (tokensFrom (a .formula .now) (at-opened .opened2 .given .0 .0)) (at-chain .before .before .if3 .left) (bracket-found at-opened)
       (inner .result) (c .close .result) (inner .ensures) (c .close .ensures)
 
@@ -303,13 +301,13 @@ module _ (t : ℕ) where
 
 -- the table's length stays; and where the chain stood at the loop's start, it stands now
 abbrev chain-Inv-loop : chain-lts.InvT-loop
-chain-Inv-loop formula table₀ at written held nesting sums left₀ table left =
+chain-Inv-loop formula table₀ at written owed nesting sums left₀ table left =
     (length table ≡ length table₀)
-    × ((x : Reading) (before : List ℕ) → Start before written held → Stood formula sums nesting x before written held table₀ left₀
-    → Stood formula sums nesting x before written held table left)
+    × ((x : Reading) (before : List ℕ) → Start before written owed → Stood formula sums nesting x before written owed table₀ left₀
+    → Stood formula sums nesting x before written owed table left)
 
 abbrev chain-μ-loop : chain-lts.MeasureT-loop
-chain-μ-loop formula table₀ at written held nesting sums left₀ table left = leftOver formula left
+chain-μ-loop formula table₀ at written owed nesting sums left₀ table left = leftOver formula left
 
 module _ (t : ℕ) where
   chain-side-requires : chain-lts.Need-side-requires (chain-calls t) (chain-at t) chain.Post chain-Inv-loop chain-μ-loop
@@ -326,7 +324,7 @@ module _ (t : ℕ) where
   Here c p =
       let a = c .before .before .before .before .before .before .before .args in
       Stood (a .formula .now) (a .sums) (a .nesting)
-      (level (a .sums) (Grammar.operand (a .nesting)) (a .written + a .held) (tokensFrom (a .formula .now) (a .at))) (a .table .now) (a .written) (a .held)
+      (level (a .sums) (Grammar.operand (a .nesting)) (a .written + a .owed) (tokensFrom (a .formula .now) (a .at))) (a .table .now) (a .written) (a .owed)
       (c .loop .table) p
 
   here : (c : chain-lts.At-loop (chain-calls t) (chain-at t) chain.Post chain-Inv-loop chain-μ-loop) → Here c (c .loop .left)
@@ -336,7 +334,7 @@ module _ (t : ℕ) where
       let a = start .args in
       let first = at-side .side in
       c .loop .inv .1 _ (a .table .now) (start .pre .1)
-      (stood-first (a .formula .now) (a .sums) (a .nesting) (a .table .now) (a .written) (a .held) (a .at) (first .last .1 .0) (first .result) (first .ensures))
+      (stood-first (a .formula .now) (a .sums) (a .nesting) (a .table .now) (a .written) (a .owed) (a .at) (first .last .1 .0) (first .result) (first .ensures))
 
   places : (c : chain-lts.At-loop (chain-calls t) (chain-at t) chain.Post chain-Inv-loop chain-μ-loop) → length (c .loop .table) ≡ maxProgram
   places c =
@@ -384,7 +382,7 @@ module _ (t : ℕ) where
       let next = at-next .next-token in
       let follows = subst (Follows f (a .sums) (tokensFrom f (q .at))) (sym (at-operator .operator-of .ensures) ∙ c .enum-told .given .1)
       (stands-follows f (a .sums) (tokensFrom f (q .at)) (next .result) (next .ensures)) in
-      stood-ends f (a .sums) (a .nesting) (a .table .now) (a .written) (a .held) _ (at-loop .loop .table) q (turning at-left) follows
+      stood-ends f (a .sums) (a .nesting) (a .table .now) (a .written) (a .owed) _ (at-loop .loop .table) q (turning at-left) follows
 
   chain-enum-known-following : chain-lts.Need-enum-known-following (chain-calls t) (chain-at t) chain.Post chain-Inv-loop chain-μ-loop
   chain-enum-known-following c = search needs
@@ -398,11 +396,10 @@ module _ (t : ℕ) where
 
   -- the operator that was found
   found : (c : chain-lts.After-following (chain-calls t) (chain-at t) chain.Post chain-Inv-loop chain-μ-loop)
-      → Follows (c .before .before .before .before .before .before .before .before .before .before .before .before .before .before .args .formula .now)
-      (c .before .before .before .before .before .before .before .before .before .before .before .before .before .before .args .sums)
-      (tokensFrom (c .before .before .before .before .before .before .before .before .before .before .before .before .before .before .args .formula .now)
-      (c .before .before .before .before .before .left2 .given .0 .0 .at))
-      (Found (c .following .given .0 .0) (c .following .given .0 .1 .0))
+      → let at-left = c .before .before .before .before .before in
+      let at-loop = at-left .before .before in
+      let a = at-loop .before .before .before .before .before .before .before .args in
+      Follows (a .formula .now) (a .sums) (tokensFrom (a .formula .now) (at-left .left2 .given .0 .0 .at)) (Found (c .following .given .0 .0) (c .following .given .0 .1 .0))
   found c =
       let at-operator = c .before .before in
       let at-next = at-operator .before in
@@ -422,9 +419,9 @@ module _ (t : ℕ) where
       let a = at-loop .before .before .before .before .before .before .before .args in
       let q = at-left .left2 .given .0 .0 in
       let dear = c .if1 .taken in
-      stood-dear (a .formula .now) (a .sums) (a .nesting) (a .table .now) (a .written) (a .held) _ (at-loop .loop .table) q (turning at-left)
+      stood-dear (a .formula .now) (a .sums) (a .nesting) (a .table .now) (a .written) (a .owed) _ (at-loop .loop .table) q (turning at-left)
       (at-following .following .given .0 .0) (at-following .following .given .0 .1 .0) (found at-following)
-      (lt-leb (q .written + a .held + 1) maxProgram (omega (arith, dear)))
+      (lt-leb (q .written + a .owed + 1) maxProgram (omega (arith, dear)))
 
   chain-add-side : chain-lts.Need-add-side (chain-calls t) (chain-at t) chain.Post chain-Inv-loop chain-μ-loop
   chain-add-side c =
@@ -444,7 +441,7 @@ module _ (t : ℕ) where
       let at-loop = at-side .before .before .before .before .before .before .before .before .before .before .before in
       let a = at-loop .before .before .before .before .before .before .before .args in
       let right = at-side .side2 in
-      read-room (a .formula .now) _ (at-loop .loop .table) (right .last .1 .0) _ (a .held + 1) 1 (right .result) (right .kept .1 .0 ∙ places at-loop) (omega arith) (right .ensures)
+      read-room (a .formula .now) _ (at-loop .loop .table) (right .last .1 .0) _ (a .owed + 1) 1 (right .result) (right .kept .1 .0 ∙ places at-loop) (omega arith) (right .ensures)
 
   chain-loop-less : chain-lts.Need-loop-less (chain-calls t) (chain-at t) chain.Post chain-Inv-loop chain-μ-loop
   chain-loop-less c =
@@ -460,9 +457,9 @@ module _ (t : ℕ) where
       let right = at-side .side2 in
       let few = at-if1 .if1 .left in
       rw (at-join .join .ensures .0, at-left .left2 .given .1)
-      (stood-less (a .formula .now) (a .sums) (a .nesting) (a .table .now) (a .written) (a .held) _ (at-loop .loop .table) q (turning at-left)
+      (stood-less (a .formula .now) (a .sums) (a .nesting) (a .table .now) (a .written) (a .owed) _ (at-loop .loop .table) q (turning at-left)
       (at-following .following .given .0 .0) (at-following .following .given .0 .1 .0) (found at-following)
-      (le-leb (q .written + a .held + 1) maxProgram (omega (arith, few))) (right .last .1 .0) (start .pre .1) (right .result) (right .ensures))
+      (le-leb (q .written + a .owed + 1) maxProgram (omega (arith, few))) (right .last .1 .0) (start .pre .1) (right .result) (right .ensures))
 
   chain-loop-again : chain-lts.Need-loop-again (chain-calls t) (chain-at t) chain.Post chain-Inv-loop chain-μ-loop
   chain-loop-again c =
@@ -479,11 +476,11 @@ module _ (t : ℕ) where
       let few = at-if1 .if1 .left in (
         at-join .join .kept .0 ∙ right .kept .1 .0 ∙ at-loop .loop .inv .0,
         λ x before start s.
-            let g = subst (Stood f (a .sums) (a .nesting) x before (a .written) (a .held) (at-loop .loop .table)) (at-left .left2 .given .1) (at-loop .loop .inv .1 x before start s) in
+            let g = subst (Stood f (a .sums) (a .nesting) x before (a .written) (a .owed) (at-loop .loop .table)) (at-left .left2 .given .1) (at-loop .loop .inv .1 x before start s) in
             rw (at-join .join .ensures .0, at-join .join .ensures .1)
-            (stood-turn f (a .sums) (a .nesting) before (a .written) (a .held) x (at-loop .loop .table) q g
+            (stood-turn f (a .sums) (a .nesting) before (a .written) (a .owed) x (at-loop .loop .table) q g
             (at-following .following .given .0 .0) (at-following .following .given .0 .1 .0) (found at-following)
-            (le-leb (q .written + a .held + 1) maxProgram (omega (arith, few))) (right .last .1 .0) start (right .result) (right .ensures)),
+            (le-leb (q .written + a .owed + 1) maxProgram (omega (arith, few))) (right .last .1 .0) start (right .result) (right .ensures)),
       )
 
 pub +chain+operand+side-spec : {M : Type 1} → statement M

@@ -7,14 +7,14 @@ use borrow.Author.Tests.{not-true, not-false}
 use mir.Syntax.{w64}
 use mir.Val.{Fits}
 use lib.ListN.{length, drop}
-use Rattle.rules.specs.Sizes.{maxNumber}
+use Rattle.rules.specs.Sizes.{maxInteger}
 use Rattle.formula.specs.Scans.{numberFrom, Above}
 use Rattle.formula.proofs.Scanned.{number-digit, number-done, number-end, above-grown, digit-range}
 use Rattle.formula.proofs.scan.number.Statement.{statement}
 use Rattle.formula.proofs.scan.number.Tie as tie
 
 abbrev Inv-loop : tie.InvT-loop
-Inv-loop formula start value₀ i₀ value i = (numberFrom 0 formula start ≡ numberFrom value formula i) × (value ≤ maxNumber)
+Inv-loop formula start value₀ i₀ value i = (numberFrom 0 formula start ≡ numberFrom value formula i) × (value ≤ maxInteger)
 
 abbrev μ-loop : tie.MeasureT-loop
 μ-loop formula start value₀ i₀ value i = length formula - i
@@ -43,7 +43,7 @@ mul-value c = let v = c .before .before .before .before .loop .inv .1 in record 
 few : (b : ℕ) → b ≤ 57 → Fits w64 (b - 48)
 few b h = record { fits = omega arith }
 
-grows : (value b : ℕ) → value ≤ maxNumber → b ≤ 57 → Fits w64 (value * 10 + (b - 48))
+grows : (value b : ℕ) → value ≤ maxInteger → b ≤ 57 → Fits w64 (value * 10 + (b - 48))
 grows value b h k = record { fits = omega arith }
 
 sub-value : tie.Need-sub-value Inv-loop μ-loop
