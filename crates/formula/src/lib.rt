@@ -11,12 +11,12 @@ mod parts;
 mod reading;
 mod scan;
 
-// Before anything is read STOP is owed.
-const STOP_OWED: usize = 1;
-
 ghost use mathlib.Core.Path.{_≡_};
 ghost use Rattle.rules.specs.Translate.{translate};
 ghost use Rattle.formula.specs.Parts.{Stoppable, Ended};
+
+// Before anything is read STOP is owed.
+const STOP_OWED: usize = 1;
 
 // The end behind a sum: nothing else may stand there. The answer, with STOP counted.
 fn end(formula: &[u8], sum: Part) -> Translated

@@ -29,6 +29,9 @@ pub(crate) enum Part {
     Unread(FormulaRefusal),
 }
 
+// What unary minus costs: PUSHIMM -1 and TIMES.
+pub(crate) const NEGATION: usize = 2;
+
 // The table's place of an operator.
 fn place_of(operator: Operator) -> u64
     ensures { λ r. ⌜ r ≡ operation operator ⌝ }
@@ -93,7 +96,7 @@ pub(crate) fn negate(table: &mut [u64], operand: Part) -> Part
             table[n + 1] = place_of(Operator::Multiply);
             Part::Read(Reached {
                 at,
-                written: n + 2,
+                written: n + NEGATION,
                 depth: larger(depth, 2),
             })
         }

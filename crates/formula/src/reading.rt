@@ -63,10 +63,17 @@ fn operand(
             if nesting == 0 {
                 return Part::Unread(FormulaRefusal::NestedTooDeep);
             }
-            if written + owed + 2 > sizes::MAX_PROGRAM {
+            if written + owed + parts::NEGATION > sizes::MAX_PROGRAM {
                 return Part::Unread(FormulaRefusal::CostTooHigh);
             }
-            let inner = operand(formula, table, end, written, owed + 2, nesting - 1);
+            let inner = operand(
+                formula,
+                table,
+                end,
+                written,
+                owed + parts::NEGATION,
+                nesting - 1,
+            );
             parts::negate(table, inner)
         }
         Opened::Bracket(end) => {
