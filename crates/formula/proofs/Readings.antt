@@ -33,29 +33,46 @@ Lettered (opening ∷ ts) = Lettered ts
 Lettered (closing ∷ ts) = Lettered ts
 Lettered (forbidden ∷ ts) = Lettered ts
 
-sorted-lettered : (b : ℕ) (ts : List Token) → Lettered ts → Lettered (sorted b ∷ ts)
+-- the token of a byte is no number, and a letter is a name
+abbrev pub Single : Token → Type 0
+Single (digits n) = ⊥
+Single (letter k) = k < nameCells
+Single (sign o) = Unit
+Single opening = Unit
+Single closing = Unit
+Single forbidden = Unit
+
+pub sorted-single : (b : ℕ) → Single (sorted b)
 unfolding sorted
-sorted-lettered b ts h =
+sorted-single b =
     by-test (leb 97 b && leb b 104)
     (λ e.
     let low : 97 ≤ b = leb-true 97 b (and-left (leb 97 b) (leb b 104) e) in
     let high : b ≤ 104 = leb-true b 104 (and-right (leb 97 b) (leb b 104) e) in
-    rw e (omega arith, h))
+    rw e (omega arith))
     (λ e. rw e (signs (eqb b 43) (eqb b 45) (eqb b 42) (eqb b 47) (eqb b 40) (eqb b 41)))
   where
     signs : (p q r s t u : Bool)
-        → Lettered (cond p (sign Add) (cond q (sign Subtract) (cond r (sign Multiply) (cond s (sign Divide) (cond t opening (cond u closing forbidden))))) ∷ ts)
-    signs true q r s t u = h
-    signs false true r s t u = h
-    signs false false true s t u = h
-    signs false false false true t u = h
-    signs false false false false true u = h
-    signs false false false false false true = h
-    signs false false false false false false = h
+        → Single (cond p (sign Add) (cond q (sign Subtract) (cond r (sign Multiply) (cond s (sign Divide) (cond t opening (cond u closing forbidden))))))
+    signs true q r s t u = tt
+    signs false true r s t u = tt
+    signs false false true s t u = tt
+    signs false false false true t u = tt
+    signs false false false false true u = tt
+    signs false false false false false true = tt
+    signs false false false false false false = tt
+
+single-lettered : (k : Token) (ts : List Token) → Single k → Lettered ts → Lettered (k ∷ ts)
+single-lettered (digits n) ts s h = h
+single-lettered (letter k) ts s h = (s, h)
+single-lettered (sign o) ts s h = h
+single-lettered opening ts s h = h
+single-lettered closing ts s h = h
+single-lettered forbidden ts s h = h
 
 before-lettered : (b : ℕ) (ts : List Token) → Lettered ts → Lettered (before b ts)
 unfolding before
-before-lettered b ts h = by-test (eqb b space) (λ e. rw e h) (λ e. rw e (sorted-lettered b ts h))
+before-lettered b ts h = by-test (eqb b space) (λ e. rw e h) (λ e. rw e (single-lettered (sorted b) ts (sorted-single b) h))
 
 mutual
   unfolding tokens numberThen

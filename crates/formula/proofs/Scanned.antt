@@ -1,17 +1,17 @@
 -- The tokens of a formula, read by index, one byte at a time. Assumes nothing.
 use Prim.Native.Nat.{ℕ, _+_, _-_, _*_, _≤_, _<_}
 use mathlib.Core.Path.{_≡_, refl, sym, ap, _∙_, subst}
-use mathlib.Core.Bool.{Bool, true, false, cond, _&&_}
+use mathlib.Core.Bool.{true, false, _&&_}
 use mathlib.Core.List.{List, [], _∷_}
 use native.Mathlib.Omega.{arith}
 use lib.Dec.{eqb, leb}
 use lib.ListN.{length, getD, drop, drop-of-length-le}
 use borrow.Author.Tests.{leb-true, le-leb, lt-leb, ne-eqb}
-use Rattle.rules.specs.Sizes.{maxInteger, nameCells}
+use Rattle.rules.specs.Sizes.{maxInteger}
 use Rattle.rules.specs.Bytes.{space, zeroDigit}
 use Rattle.rules.specs.Grammar.{Token, digits, letter, sign, opening, closing, forbidden, sorted, digit, before, tokens, numberThen}
-use Rattle.rules.specs.declared.Operator.the-variants.{Add, Subtract, Multiply, Divide}
 use Rattle.rules.proofs.Tests.{by-test, drop-next, and-left, and-right}
+use Rattle.formula.proofs.Readings.{Single, sorted-single}
 use Rattle.formula.specs.Scans.{tokensFrom, numberFrom, Above, Stands, answered}
 
 -- ---- tokens by index
@@ -109,35 +109,6 @@ module _ (b : ℕ) (n43 : b ≡ 43 → ⊥) (n45 : b ≡ 45 → ⊥) (n42 : b �
   sorted-high l h = sorted-none (rw (le-leb 97 b l, lt-leb b 104 h))
 
 -- ---- what stands next
-
--- the token of a byte is no number, and a letter is a name
-abbrev pub Single : Token → Type 0
-Single (digits n) = ⊥
-Single (letter k) = k < nameCells
-Single (sign o) = Unit
-Single opening = Unit
-Single closing = Unit
-Single forbidden = Unit
-
-sorted-single : (b : ℕ) → Single (sorted b)
-unfolding sorted
-sorted-single b =
-    by-test (leb 97 b && leb b 104)
-    (λ e.
-    let low : 97 ≤ b = leb-true 97 b (and-left (leb 97 b) (leb b 104) e) in
-    let high : b ≤ 104 = leb-true b 104 (and-right (leb 97 b) (leb b 104) e) in
-    rw e (omega arith))
-    (λ e. rw e (signs (eqb b 43) (eqb b 45) (eqb b 42) (eqb b 47) (eqb b 40) (eqb b 41)))
-  where
-    signs : (p q r s t u : Bool)
-        → Single (cond p (sign Add) (cond q (sign Subtract) (cond r (sign Multiply) (cond s (sign Divide) (cond t opening (cond u closing forbidden))))))
-    signs true q r s t u = tt
-    signs false true r s t u = tt
-    signs false false true s t u = tt
-    signs false false false true t u = tt
-    signs false false false false true u = tt
-    signs false false false false false true = tt
-    signs false false false false false false = tt
 
 single-stands : (f : List ℕ) (end : ℕ) (ts : List Token) (k : Token) → Single k → ts ≡ k ∷ tokensFrom f end → Stands f ts (answered k end)
 single-stands f end ts (digits n) l e = absurd l
