@@ -32,11 +32,12 @@ use Rattle.rules.specs.declared.Checked.the-variants.{Accepted}
 use Rattle.rules.proofs.Runs.{run-long}
 use Rattle.rules.proofs.Spares.{Spares, spares-fitting}
 use Rattle.promises.specs.Unbounded.{Unbounded, decided}
-use Rattle.promises.specs.Series.{Request, step, run, State, Session, stateOf, series, begin, left, fresh, reset as byReset, ahead, freshRun, Promised}
+use Rattle.promises.specs.Series.{Request, step, run, State, Session, stateOf, series, begin, left, fresh, ahead, freshRun, Promised}
 use Rattle.promises.specs.Delivered.{Acceptable, Reached, meets, AsListed}
 use Rattle.promises.proofs.Counts.{series-then}
 use Rattle.promises.proofs.Runs.{Because, IsItsSteps, run-is-its-steps}
-use Rattle.promises.proofs.Demand3Reset.{own-sizes, reset-accepted}
+use Rattle.promises.proofs.Demand3Reset.{reset-accepted}
+use Rattle.promises.proofs.Demand3Origin.{reset-origin}
 use Rattle.promises.proofs.Demand3.{demand3}
 use Rattle.promises.proofs.Acceptable.{accepted-acceptable}
 use Rattle.promises.proofs.OnList.{OnList, judged-spared, moved-on}
@@ -60,7 +61,7 @@ module _ (p : Program) (m : Memory) (depths : List ℕ) (accepts : check p (leng
   x = fresh o
 
   promised : (qs : List Request) → Promised p o x (series p qs (begin o))
-  promised = demand3 p o x (byReset m m ready ready (own-sizes m) refl refl)
+  promised = demand3 p o x (reset-origin p m ready)
 
   -- "place 0 has depth 0": so it begins
   on-reset : OnList p depths (x .registers)

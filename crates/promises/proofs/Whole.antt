@@ -18,13 +18,13 @@ use Rattle.rules.specs.declared.MachineRefusal.the-variants.{NoHistory}
 use Rattle.rules.specs.declared.Begun.the-variants.{Ready}
 use Rattle.rules.specs.declared.Resumed.the-variants.{Going}
 use Rattle.promises.specs.Unbounded.{Unbounded}
-use Rattle.promises.specs.Series.{Request, step, run, back, forget, State, Session, stateOf, ask, series, begin, left, leftByLoad, SameSizes, fresh, Origin, reset, load, afresh, ahead, Promised}
+use Rattle.promises.specs.Series.{Request, step, run, back, forget, State, Session, stateOf, ask, series, begin, left, leftByLoad, SameSizes, fresh, Origin, afresh, ahead, Promised}
 use Rattle.promises.specs.Whole.{NoForgets, Whole}
 use Rattle.promises.proofs.Runs.{none-undone, none-forgotten}
 use Rattle.promises.proofs.Demand3Held.{Begins}
-use Rattle.promises.proofs.Demand3Reset.{own-sizes, reset-sized}
+use Rattle.promises.proofs.Demand3Reset.{reset-sized}
 use Rattle.promises.proofs.Demand3Load.{load-sized}
-use Rattle.promises.proofs.Demand3Origin.{origin-begins}
+use Rattle.promises.proofs.Demand3Origin.{origin-begins, reset-origin, load-origin}
 use Rattle.promises.proofs.Demand3Kept.{reached, Kept, kept-series}
 use Rattle.promises.proofs.Demand3.{far-is, promised, same-held}
 use Rattle.promises.proofs.KeepsUp.{steps-made}
@@ -78,15 +78,13 @@ pub demand3-fresh : (p : Program) (m m′ : Memory) → Reset.reset p m .answer 
     → (qs : List Request) → NoForgets qs → Whole p (left (Reset.reset p m′)) (series p qs (begin (left (Reset.reset p m))))
 demand3-fresh p m m′ ready same history qs n =
     let o : State = left (Reset.reset p m) in
-    let origin : Origin p o (fresh o) = reset m m ready ready (own-sizes m) refl refl in
     subst (λ (l : Reset.Started). Whole p (left l) (series p qs (begin o))) (reset-sized p m m′ ready same history)
-    (demand3-whole p o (fresh o) origin qs n)
+    (demand3-whole p o (fresh o) (reset-origin p m ready) qs n)
 
 -- beside a fresh load of the same image, "in place of a fresh reset" (02 k)
 pub demand3-loaded : (p : Program) (image : List ℕ) (m m′ : Memory) → SavedState.load image p m .answer .resumed ≡ Going → SameSizes m m′ → length (m .history) ≡ length (m′ .history)
     → (qs : List Request) → NoForgets qs → Whole p (leftByLoad (SavedState.load image p m′)) (series p qs (begin (leftByLoad (SavedState.load image p m))))
 demand3-loaded p image m m′ going same history qs n =
     let o : State = leftByLoad (SavedState.load image p m) in
-    let origin : Origin p o (fresh o) = load image m m going going (own-sizes m) refl refl in
     subst (λ (l : SavedState.Loading). Whole p (leftByLoad l) (series p qs (begin o))) (load-sized image p m m′ going same history)
-    (demand3-whole p o (fresh o) origin qs n)
+    (demand3-whole p o (fresh o) (load-origin p image m going) qs n)

@@ -8,6 +8,8 @@ pub mod Carried
 pub mod Refusals
 pub mod Addresses
 pub mod Dwells
+pub mod Rooms
+pub mod Evenings
 pub mod Delivered
 pub mod Wrote
 pub mod Formulas

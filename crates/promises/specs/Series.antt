@@ -149,18 +149,23 @@ pub record SameSizes (m m′ : Memory) : Type 0 where
   pub tags : length (m .cells .tags) ≡ length (m′ .cells .tags)
   pub output : length (m .output) ≡ length (m′ .output)
 
+-- The same start twice, with histories of any two lengths: what two resets leave that are accepted, or what two loads of one image leave that are accepted; of lent
+-- memory of the same sizes but for its history. "The program handed to the load is demand 3's program from then on."
+pub data SameStart (p : Program) (o t : State) : Type 0 where
+  reset : (m m′ : Memory) → Reset.reset p m .answer .begun ≡ Ready → Reset.reset p m′ .answer .begun ≡ Ready → SameSizes m m′
+      → o ≡ left (Reset.reset p m) → t ≡ left (Reset.reset p m′) → SameStart p o t
+  load : (image : List ℕ) (m m′ : Memory) → SavedState.load image p m .answer .resumed ≡ Going → SavedState.load image p m′ .answer .resumed ≡ Going → SameSizes m m′
+      → o ≡ leftByLoad (SavedState.load image p m) → t ≡ leftByLoad (SavedState.load image p m′) → SameStart p o t
+
 -- of a machine, to run beside it without a history: no step is made
 abbrev pub fresh : State → Unbounded
 fresh o = unmoved (o .registers) (o .memory)
 
--- An origin o, and x, where the fresh run beside it begins: "the latest reset or load". o is what a reset leaves that is accepted, and x what another leaves, of lent
--- memory of the same sizes but for its history, which x does without; or what a load leaves that is accepted, and what another of the same image leaves. "The program
--- handed to the load is demand 3's program from then on."
-pub data Origin (p : Program) (o : State) (x : Unbounded) : Type 0 where
-  reset : (m m′ : Memory) → Reset.reset p m .answer .begun ≡ Ready → Reset.reset p m′ .answer .begun ≡ Ready → SameSizes m m′
-      → o ≡ left (Reset.reset p m) → x ≡ fresh (left (Reset.reset p m′)) → Origin p o x
-  load : (image : List ℕ) (m m′ : Memory) → SavedState.load image p m .answer .resumed ≡ Going → SavedState.load image p m′ .answer .resumed ≡ Going → SameSizes m m′
-      → o ≡ leftByLoad (SavedState.load image p m) → x ≡ fresh (leftByLoad (SavedState.load image p m′)) → Origin p o x
+-- An origin o, "the latest reset or load", and x, where the fresh run beside it begins: at the same start, made again, whose history x does without
+pub record Origin (p : Program) (o : State) (x : Unbounded) : Type 0 where
+  pub other : State
+  pub start : SameStart p o other
+  pub begins : x ≡ fresh other
 
 -- ---- what is promised
 
