@@ -143,7 +143,11 @@ uint32_t sam_unpack(const uint8_t *image, size_t image_len, uint64_t *table, siz
                     size_t told_len);
 
 /* The calls on a machine are lent its output, characters for the landing panel, after the history. WRITECH appends a
- * byte to it, and the step-back of a WRITECH drops the last byte and zeroes it. What its bytes are is not judged. */
+ * byte to it, and the step-back of a WRITECH drops the last byte and zeroes it. What its bytes are is not judged.
+ *
+ * How much history is lent decides how many steps can be taken back and where a step is 8, and nothing else: machines
+ * with the same program, N, output length and reset, or load of one image, hold the same and answer alike, step by
+ * step, until one of them answers 8. */
 
 /* Sets every cell to INT 0, every history place and every byte of the output to 0, N and H to the lent counts and the
  * other registers to 0. 11 comes before 10. A refused reset leaves cells, history and output as they were and sets the
@@ -171,7 +175,7 @@ uint32_t sam_forget(const uint64_t *table, size_t places, uint64_t length, uint6
                     size_t h, uint8_t *output, size_t output_len);
 
 /* Makes steps until HALT is 1 (0), the limit is made (50) or a step is refused (its number); 11, then 10 at its entry.
- * told[1]: the number of steps made, which stand. */
+ * told[1]: the number of steps made, which stand. A run that did not end with 50 is the same with any larger limit. */
 uint32_t sam_run(const uint64_t *table, size_t places, uint64_t length, uint64_t limit, uint64_t *registers,
                  size_t registers_len, uint32_t *bits, size_t n, uint8_t *tags, size_t tags_len, uint64_t *history,
                  size_t h, uint8_t *output, size_t output_len, uint64_t *told, size_t told_len);

@@ -49,8 +49,8 @@ pub mod Formulas
 pub mod FormulaTokens
 pub mod FormulaTexts
 -- Request n: two machines with histories of different room, and a run with a larger limit.
+pub mod LargerLimit
 pub mod SideBySide
 pub mod Rooms
-pub mod LargerLimit
 -- All of them, and those of other crates, each below its sentence.
 mod Theorems

@@ -23,12 +23,13 @@ use Rattle.promises.specs.Unbounded.{Unbounded, decided, moved}
 use Rattle.promises.specs.Series.{Request, step, State, plain, Session, stateOf, accepted, ask, series, begin, afresh, fresh, SameStart, ahead, freshRun, Promised}
 use Rattle.promises.specs.Carried.{RoomAfter}
 use Rattle.promises.specs.Dwells.{readOff}
-use Rattle.promises.specs.Rooms.{withoutHistory, HoldTheSame, full, numberAfter, AnswerAlike, SameEvening, EndAlike, AlikeUnlessFull, AsFar, SameSoFar}
+use Rattle.promises.specs.Rooms.{withoutHistory, HoldTheSame, full, numberAfter, AnswerAlike, SameEvening, EndAlike, AlikeUnlessFull, AsFar, SameSoFar, MoreRoomSameEvening}
 use Rattle.promises.proofs.Runs.{steps-end}
 use Rattle.promises.proofs.Counts.{series-then}
 use Rattle.promises.proofs.Demand3Origin.{one-origin, other-origin}
 use Rattle.promises.proofs.Demand3.{demand3}
 use Rattle.promises.proofs.Dwells.{dwell-afresh}
+use Rattle.promises.proofs.LargerLimit.{larger-limit}
 use Rattle.promises.proofs.SideBySide.{Together, one-decided, same-or-full, same-accepted, unless-full, answer, Goes, none-left, one-left}
 
 -- ---- a session beside the fresh run
@@ -132,7 +133,7 @@ module _ (p : Program) (s t : State) (start : SameStart p s t) where
       let far : AsFarAfter k = room-as-far k before before′ in
       in-step k far (same-number k far before before′)
 
-  pub same-evening : SameEvening p s t
+  same-evening : SameEvening p s t
   same-evening =
       record {
         holds = λ k accepts accepts′. hold (steps k) (steps k) (alike-as-far k (λ i low. accepts i low ∙ sym (accepts′ i low)));
@@ -170,7 +171,7 @@ module _ (p : Program) (s t : State) (start : SameStart p s t) where
         λ room room′.
         subst₂ EndAlike (sym (run-long p limit _ _ c)) (sym (run-long p limit _ _ c)) (record { number = refl; steps = refl; holds = hold qs qs′ far })
 
-    pub same-so-far : SameSoFar p (one qs) (other qs′)
+    same-so-far : SameSoFar p (one qs) (other qs′)
     same-so-far =
         record {
           holds = hold qs qs′ far;
@@ -180,3 +181,8 @@ module _ (p : Program) (s t : State) (start : SameStart p s t) where
           next = same-or-full (together qs qs′ far);
           runs = λ limit. by-limit limit (leb limit maxLimit) refl;
         }
+
+-- ---- the whole
+
+pub more-room : (p : Program) → MoreRoomSameEvening p
+more-room p = record { steps = same-evening p; sessions = same-so-far p; limits = larger-limit p }

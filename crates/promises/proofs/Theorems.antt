@@ -121,9 +121,6 @@ use Rattle.promises.proofs.FormulaTexts.{every-tree-translated}
 use Rattle.rules.specs.Translations.{all-translated}
 -- ---- Request n: "two sessions of steps with the same program, N, output length and start (a reset or one saved state), and any two history rooms, make the same cells, tags, output, PC, SP, FBR and HALT for as many steps as both accept, and .. their answers differ first only by an 8."
 
-use Rattle.promises.proofs.Rooms.{same-evening}
--- and in the middle of an evening, with the dwell that is read and the runs that are made there
-use Rattle.promises.proofs.Rooms.{same-so-far}
--- "Where a run ended with 0 or a step's refusal, any larger limit in range gives the same answer, step count and final state."
-use Rattle.promises.proofs.LargerLimit.{larger-limit}
+-- and "Where a run ended with 0 or a step's refusal, any larger limit in range gives the same answer, step count and final state."
+use Rattle.promises.proofs.Rooms.{more-room}
 use Rattle.promises.specs.Evenings.{all-evenings, same-held}

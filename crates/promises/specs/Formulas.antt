@@ -20,7 +20,7 @@ use Rattle.rules.specs.DepthList.{depthAfter}
 use Rattle.rules.specs.Grammar.{Tree, formula, parse}
 use Rattle.rules.specs.Evaluate.{Value, value, noValue, worth}
 use Rattle.rules.specs.Translate.{cost, depth}
-use Rattle.promises.specs.Series.{State, afresh}
+use Rattle.promises.specs.Series.{State, afresh, leftByRun}
 
 -- ---- where the program may be run
 
@@ -46,9 +46,6 @@ pub record Ready (p : Program) (deep : ℕ) (s : State) : Type 0 where
   pub history : (s .registers .h ≡ 0) ⊎ (2 * p .count - 1 ≤ s .registers .h - s .registers .used)
 
 -- ---- what a run of it leaves
-
-abbrev leftByRun : Ran → State
-leftByRun a = record { registers = a .answer .registers; memory = a .memory }
 
 -- "all eight cells as they were", and so every cell below an address, its bits and its tag; and a formula writes no output
 pub record Untouched (low : ℕ) (s s′ : State) : Type 0 where

@@ -17,6 +17,7 @@
 use Prim.Native.Nat.{ℕ, suc, _≤_, _<_}
 use mathlib.Core.Path.{_≡_}
 use mathlib.Core.Logic.{_⊎_}
+use mathlib.Core.List.{List}
 use Rattle.rules.specs.Sizes.{maxLimit}
 use Rattle.rules.specs.Table.{Program}
 use Rattle.rules.specs.Numbers.{machineNumber, numberOfStep, numberOfEnding}
@@ -25,7 +26,7 @@ use Rattle.rules.specs.Run.{Ran}
 use Rattle.rules.specs.Run as Run
 use Rattle.rules.specs.declared.MachineRefusal.the-variants.{HistoryFull}
 use Rattle.rules.specs.declared.Ending.the-variants.{LimitReached}
-use Rattle.promises.specs.Series.{State, plain, Session, stateOf, afresh, fresh, ahead}
+use Rattle.promises.specs.Series.{Request, State, plain, Session, stateOf, series, begin, afresh, leftByRun, SameStart, fresh, ahead}
 use Rattle.promises.specs.Carried.{answerAfter, RoomAfter}
 use Rattle.promises.specs.Dwells.{readIn}
 
@@ -72,12 +73,9 @@ pub record SameEvening (p : Program) (s t : State) : Type 0 where
 
 -- ---- 4 and 5: sessions of any kind, and their runs
 
--- the number that a run ended with, and what it leaves
+-- the number that a run ended with
 abbrev pub endNumber : Ran → ℕ
 endNumber a = numberOfEnding (a .answer .ending)
-
-abbrev pub leftByRun : Ran → State
-leftByRun a = record { registers = a .answer .registers; memory = a .memory }
 
 pub record EndAlike (a b : Ran) : Type 0 where
   pub number : endNumber a ≡ endNumber b
@@ -108,3 +106,13 @@ abbrev pub LargerLimit : Program → State → Type 0
 LargerLimit p s =
     (limit larger : ℕ) → limit ≤ larger → larger ≤ maxLimit → (endNumber (Run.run p limit (s .registers) (s .memory)) ≡ numberOfEnding LimitReached → ⊥)
     → Run.run p larger (s .registers) (s .memory) ≡ Run.run p limit (s .registers) (s .memory)
+
+-- ---- the whole, of every program
+
+pub record MoreRoomSameEvening (p : Program) : Type 0 where
+  -- "two sessions of steps with the same program, N, output length and start (a reset or one saved state), and any two history rooms"
+  pub steps : (s t : State) → SameStart p s t → SameEvening p s t
+  -- and two sessions of any requests from there
+  pub sessions : (s t : State) → SameStart p s t → (qs qs′ : List Request) → AsFar (series p qs (begin s)) (series p qs′ (begin t))
+      → SameSoFar p (series p qs (begin s)) (series p qs′ (begin t))
+  pub limits : (s : State) → LargerLimit p s

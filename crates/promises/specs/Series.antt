@@ -136,12 +136,15 @@ afresh p o k = series p (replicate k step) (begin o)
 
 -- ---- where a series begins
 
--- what a reset leaves, and what a load leaves
+-- what a reset leaves, what a load leaves, and what a run leaves
 abbrev pub left : Reset.Started → State
 left o = record { registers = o .answer .registers; memory = o .memory }
 
 abbrev pub leftByLoad : SavedState.Loading → State
 leftByLoad o = record { registers = o .answer .registers; memory = o .memory }
+
+abbrev pub leftByRun : Run.Ran → State
+leftByRun a = record { registers = a .answer .registers; memory = a .memory }
 
 -- "its other sizes the same": as many cells, tags and bytes of output, whatever they hold
 pub record SameSizes (m m′ : Memory) : Type 0 where
