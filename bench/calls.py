@@ -139,6 +139,15 @@ class Script:
         self.drawn_formulas = Counter()  # (kind, number) of each formula that was drawn
         self.formula_tables = Counter()  # (places, number with 1,024) of each formula with another table
         self.formula_runs = Counter()  # (what is short, whether there is a history, values between, number) of each run
+        self.room_steps = Counter()  # (start, kinds of two rooms, who met 8 first or both, when or number) of sessions
+        self.room_runs = Counter()  # (start, kinds of two rooms, who ended with 8, number) of each two runs
+        self.room_starts = Counter()  # (start, number of the first step) of each session of steps
+        self.room_instructions = Counter()  # (name, H, number) of each instruction made alone from a saved state
+        self.room_outputs = Counter()  # (start, kinds of two rooms) of each two sessions that both wrote output
+        self.taught_rooms = Counter()  # (program, start, kinds of two rooms, word) of the published programs' sessions
+        self.room_limits = Counter()  # (number, whether there is a history, any steps, limit, its number) of each run
+        self.taught_limits = Counter()  # (program, number) of each run of theirs that was made with larger limits
+        self.held = []  # (judge, *what it is handed besides the answers): what request n says of these lines
         self.wrong_tolds = Counter()  # (word, told's length, output's length, number of the input alone) of writers
         self.register_lengths = Counter()  # (line, number with nine, length, number) of each with another length
         self.resets = Counter()  # (length of the registers, cells, tags, history places, output, number) of each reset
@@ -151,6 +160,14 @@ class Script:
         self.numbers[number] += 1
         self.calls[line.split(" ", 1)[0]] += 1
         self.lines.append((line, " ".join([str(number)] + [f"{name} {word}" for name, word in parts])))
+
+    def last_line(self):
+        """The number of the line that made the last call."""
+        return len(self.lines) - 1
+
+    def hold(self, judge, *lines):
+        """The answers to these lines, those of either side, are to be judged."""
+        self.held.append((judge, *lines))
 
     def write(self, word, writer, output, told_length):
         """(number, told) of a call that writes an output. A told of another length is 31 before anything else and stays

@@ -1,12 +1,13 @@
 """The families of cases that compare.py draws from: each adds calls to a script."""
 
 from dataclasses import dataclass, replace
-from itertools import chain, product
+from itertools import chain, combinations, product
 
 import depths
 import forgets
 import formulas
 import panel
+import rooms
 import sam
 import saves
 import teaching
@@ -1939,6 +1940,200 @@ def formula_case(chooser, script):
         run_formula(script, formula, table, told, formulas.any_values(chooser), between, has_history, short_of)
 
 
+# ---- more room, the same evening
+
+
+def begun(script, start, h):
+    """A machine with so many history places after its start."""
+    lent = LentMachine(script, start.program, marked_state(start.n, start.n, h, start.size))
+    number = lent.reset() if start.image is None else lent.load(start.image)
+    assert number == 0
+    return lent
+
+
+def saved_start(script, start, h, steps):
+    """One saved state: that of a session from there with so many places, after so many steps."""
+    lent = begun(script, start, h)
+    lent.run(steps)
+    assert lent.save() == 0
+    return replace(start, image=lent.saved())
+
+
+def steps_and_places(start, most):
+    """The steps that a session makes, so many at most, and the places that they take where there is room."""
+    state = marked_state(start.n, start.n, HISTORY_LIMIT, start.size)
+    number = sam.reset(start.program, state) if start.image is None else sam.load(start.program, state, start.image)
+    assert number == 0
+    _, steps = sam.run(start.program, state, most)
+    return steps, state.registers.used
+
+
+def step_session(script, start, h, most):
+    """(Numbers, bytes of output that were written, lines) of a start and its steps, until one is refused and refused
+    again."""
+    lent = begun(script, start, h)
+    written, numbers, lines = lent.state.registers.written, [], [script.last_line()]
+    while len(numbers) < most and not any(numbers[:-1]):
+        numbers.append(lent.step())
+        lines.append(script.last_line())
+    return numbers, lent.state.registers.written - written, lines
+
+
+def held_steps(script, start, room_list, most, name=None):
+    """A session with each of these rooms, all with the same start, and each two of them held to request n."""
+    sessions = [(h, *step_session(script, start, h, most)) for h in room_list]
+    for (h, numbers, wrote, lines), (other_h, others, other_wrote, other_lines) in combinations(sessions, 2):
+        script.hold(rooms.judge_steps, lines, other_lines)
+        kinds = rooms.kinds_of(h, other_h)
+        script.room_steps[(start.word(), kinds, *rooms.end_of_steps(numbers, others))] += 1
+        if wrote > 0 and other_wrote > 0:
+            script.room_outputs[start.word(), kinds] += 1
+        script.taught_rooms[name, start.word(), kinds, "step"] += 1
+    script.room_starts.update((start.word(), numbers[0]) for _, numbers, _, _ in sessions)
+    return [numbers for _, numbers, _, _ in sessions]
+
+
+def run_session(script, start, h, limits):
+    """((Number, steps) of each, lines) of a start and runs with these limits."""
+    lent = begun(script, start, h)
+    runs, lines = [], [script.last_line()]
+    for limit in limits:
+        runs.append((lent.run(limit), *lent.told))
+        lines.append(script.last_line())
+    return runs, lines
+
+
+def held_runs(script, start, room_list, limits, name=None):
+    """The same of sessions of runs."""
+    sessions = [(h, *run_session(script, start, h, limits)) for h in room_list]
+    for (h, runs, lines), (other_h, others, other_lines) in combinations(sessions, 2):
+        script.hold(rooms.judge_runs, lines, other_lines)
+        kinds = rooms.kinds_of(h, other_h)
+        for run, other in zip(runs, others):
+            end = rooms.end_of_runs(run, other)
+            script.room_runs[(start.word(), kinds, *end)] += 1
+            if end[0] != "both":
+                break
+        script.taught_rooms[name, start.word(), kinds, "run"] += 1
+
+
+def held_limits(script, program, state, most, name=None):
+    """Runs of one state, each on a copy of it, with the limits around what it needs and up to the greatest; nothing
+    where it does not end within so many steps."""
+    number, steps = sam.run(program, copied(state), most)
+    if number == 50:
+        return
+    lines = []
+    for what, limit in rooms.limits_around(number, steps, RUN_LIMIT).items():
+        given = LentMachine(script, program, copied(state)).run(limit)
+        lines.append(script.last_line())
+        script.room_limits[number, state.registers.h > 0, steps > 0, what, given] += 1
+    script.hold(rooms.judge_limits, *lines)
+    script.taught_limits[name, number] += 1
+
+
+def limits_on_the_way(script, start, h, most, name=None):
+    """Of the states at the start, after half of the steps, and at the end, where the next ends at once."""
+    lent, states = begun(script, start, h), []
+    _, steps = sam.run(start.program, copied(lent.state), most)
+    for limit in (0, steps // 2, most):
+        lent.run(limit)
+        states.append(copied(lent.state))
+    for state in states:
+        held_limits(script, start.program, state, most, name)
+
+
+def room_starts(script, program, n, size):
+    """A reset; and states that were saved on the way without a history, and at the end with one."""
+    start = rooms.Start(program, n, size)
+    yield start
+    for steps, h in zip(rooms.SAVED_AFTER, (0, HISTORY_LIMIT)):
+        yield saved_start(script, start, h, steps)
+
+
+def room_session_corners(script):
+    """Sessions that end in every way, with output and without, in rooms around what they take."""
+    for (source, n, size, number), shown in product(rooms.SESSIONS, ("", rooms.SHOWING)):
+        program = depths.program_of(shown + source)
+        for start in room_starts(script, program, n, size + bool(shown)):
+            _, enough = steps_and_places(start, rooms.MOST_STEPS)
+            room_list = rooms.rooms_around(enough)[:: -1 if shown else 1]
+            sessions = held_steps(script, start, room_list, rooms.MOST_STEPS)
+            assert sessions[room_list.index(0)][-1] == number, shown + source
+            for limits in rooms.LIMITS:
+                held_runs(script, start, room_list, limits)
+            for h in (0, *rooms.LIMITED_ROOMS):
+                limits_on_the_way(script, start, h, rooms.MOST_STEPS)
+
+
+def room_instruction_corners(script):
+    """One step of every instruction from a saved state, over cells that hold another thing, with just enough room and
+    with one place less."""
+    for text, stack, written in whys.SINGLE_STEPS:
+        lent = LentMachine(script, single(text), whys.single_machine(stack, (CH, 76), 0))
+        assert lent.save() == 0
+        start = rooms.Start(lent.program, whys.CELLS, len(lent.state.output), lent.saved())
+        cells = len(written)
+        room_list = list(dict.fromkeys([cells, 0, HISTORY_LIMIT, cells + 1]))
+        for h, numbers in zip(room_list, held_steps(script, start, room_list, 1)):
+            assert numbers == [8 if h == cells > 0 else 0], (text, h)
+            script.room_instructions[text.split(" ")[0], h, *numbers] += 1
+
+
+def room_filling_corners(script):
+    """Sessions that fill all there can be: with a little less room they end at the same step."""
+    start = rooms.Start(depths.program_of(rooms.FILLING), rooms.FILLING_CELLS, 0)
+    for start, room_list in [
+        (start, rooms.FILLING_ROOMS),
+        (saved_start(script, start, 0, 3), rooms.FILLING_ROOMS[::-1]),
+    ]:
+        sessions = held_steps(script, start, room_list, rooms.MOST_STEPS)
+        assert {h: len(numbers) - 2 for h, numbers in zip(room_list, sessions)} == rooms.FILLED_AFTER, sessions
+        held_runs(script, start, room_list, (rooms.MOST_STEPS,))
+    limits_on_the_way(script, start, HISTORY_LIMIT, rooms.MOST_STEPS)
+
+
+def room_teaching_corners(script):
+    """The published programs, the panel and the complaint: to their ends by steps and by runs, and saved half way."""
+    for name in teaching.PROGRAMS:
+        start = rooms.Start(teaching.program_of(name), rooms.TEACHING_CELLS, rooms.TEACHING_OUTPUT)
+        half = steps_and_places(start, rooms.TEACHING_STEPS)[0] // 2
+        for start in (start, saved_start(script, start, 0, half)):
+            steps, enough = steps_and_places(start, rooms.TEACHING_STEPS)
+            room_list = list(dict.fromkeys([enough - 1, 0, HISTORY_LIMIT, enough, rooms.TEACHING_SMALL]))
+            held_steps(script, start, room_list, steps + 2, name)
+            held_runs(script, start, room_list, (RUN_LIMIT,), name)
+            for h in room_list:
+                limits_on_the_way(script, start, h, steps + 1, name)
+
+
+def room_corners(script):
+    for corners in (room_session_corners, room_instruction_corners, room_filling_corners, room_teaching_corners):
+        corners(script)
+
+
+def any_start(chooser, script):
+    """A reset of any sizes, or a state that was saved after any steps, with any history."""
+    state = fresh_state(chooser)
+    start = rooms.Start(made_program(chooser), len(state.bits), len(state.output))
+    if chooser.randrange(2):
+        return start
+    return saved_start(script, start, any_room(chooser), chooser.choice([0, 1, 3, 8, 15, 30, 200]))
+
+
+def room_case(chooser, script):
+    """Sessions of steps or of runs from one start in some rooms, and larger limits in one of them."""
+    start, most = any_start(chooser, script), chooser.choice([3, 8, 12, 12, 40])
+    _, enough = steps_and_places(start, most)
+    room_list = list(dict.fromkeys(rooms.any_room(chooser, enough) for _ in range(4)))
+    if chooser.randrange(3):
+        held_steps(script, start, room_list, most)
+    else:
+        held_runs(script, start, room_list, [chooser.choice([0, 1, 2, 5, most, 200]) for _ in range(3)])
+    if chooser.randrange(2):
+        limits_on_the_way(script, start, chooser.choice(room_list), chooser.choice([most, 300]))
+
+
 # What a family has before its cases are drawn.
 CORNERS = {
     "text": text_corners,
@@ -1949,6 +2144,7 @@ CORNERS = {
     "why": why_corners,
     "dwell": dwell_corners,
     "save": saving_corners,
+    "room": room_corners,
     "depths": depth_corners,
     "formula": formula_corners,
     "instruction": instruction_corners,
@@ -1967,6 +2163,7 @@ FAMILIES = {
     "why": (why_case, 2),
     "dwell": (dwell_case, 6),
     "save": (save_case, 3),
+    "room": (room_case, 2),
     "depths": (depth_case, 3),
     "formula": (formula_case, 4),
     "plain": (plain_case, 4),

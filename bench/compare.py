@@ -14,8 +14,9 @@ record or a WRITECH that request h speaks of was never met, a forget that reques
 refused or the room it gained never used, a depth list that request j speaks of was never accepted or never refused or a
 program with a list never played, a state that request k speaks of was never saved, never loaded or never refused or a
 session never carried on, a cell that request l speaks of was never asked, never told of or never refused, a formula
-that request m speaks of was never translated, never run or never refused, or a told or registers of another length were
-never given to a call that would be done or refused besides.
+that request m speaks of was never translated, never run or never refused, sessions in two rooms that request n speaks
+of were never made or their answers are not as it says, or a told or registers of another length were never given to a
+call that would be done or refused besides.
 """
 
 import argparse
@@ -30,6 +31,7 @@ import depths
 import forgets
 import formulas
 import panel
+import rooms
 import sam
 import saves
 import teaching
@@ -42,8 +44,8 @@ from dwells import KINDS_OF_CELLS, LONGEST, REFUSED_CELLS, SHORTEST, first_of
 from programs import CONVERSIONS, FTOI_ENDS, GREATEST, INFINITIES, INTEGER_TIES, LEAST, MINUS_ZERO, NANS, SUMS, ZEROS
 from programs import ONE_INTEGER, TWO_FLOATS, TWO_INTEGERS
 from sam.actions import CH, FLOAT, INT, MA, PA
-from sam.machine import OUTPUT_LIMIT, RUN_LIMIT
-from sam.table import WORD
+from sam.machine import HISTORY_LIMIT, OUTPUT_LIMIT, RUN_LIMIT
+from sam.table import NAMES, WORD
 from sources import any_source, every_refusal
 
 ALL_NUMBERS = [*range(0, 13), 14, *range(21, 32), 33, *range(41, 46), 50, *range(60, 68), *range(70, 74)]
@@ -410,6 +412,42 @@ DRAWN_FORMULAS = {
     "long and damaged": [28, 71],
     "wide": [0],
 }
+# What request n added: the kinds of two rooms for a history, none, some places and all there can be; and those of which
+# one is full at the first step.
+TWO_ROOMS = [("none", "some"), ("none", "all"), ("some", "some"), ("some", "all")]
+ONE_IS_FULL = [kinds for kinds in TWO_ROOMS if "some" in kinds]
+BOTH_ARE_FULL = [kinds for kinds in TWO_ROOMS if "none" not in kinds]
+STARTS = ("reset", "load")
+# A start, the kinds of two rooms, who met 8 first, and when; or both, and the number of the last step.
+ROOM_STEPS = [
+    *product(STARTS, TWO_ROOMS, ["both"], SESSION_NUMBERS),
+    *product(STARTS, BOTH_ARE_FULL, ["both"], [8]),
+    *product(STARTS, ONE_IS_FULL, ("first", "second"), ("at once", "later")),
+    *[(start, ("none", "all"), who, "later") for start, who in [("reset", "first"), ("load", "second")]],
+]
+# A start, the kinds of two rooms, and of two runs the number that both or one of them ended with; the other's is 8.
+RUN_NUMBERS = [0, 2, 3, 4, 5, 6, 7, 12, 50]
+ROOM_RUNS = [
+    *product(STARTS, TWO_ROOMS, ["both"], RUN_NUMBERS),
+    *product(STARTS, BOTH_ARE_FULL, ("both", "apart"), [8]),
+    *product(STARTS, ONE_IS_FULL, ["one"], RUN_NUMBERS),
+    *product(STARTS, [("none", "all")], ["one"], [50]),
+]
+# The number that a run ends with, whether there is a history, whether it makes a step, its limit, and what that gives.
+ROOM_LIMITS = [
+    (number, has_history, *limit)
+    for number, has_history in [*product(RUN_NUMBERS[:-1], (False, True)), (8, True)]
+    for limit in [
+        *product((False, True), ("just enough", "one more", "some more", "the most"), [number]),
+        *product((False, True) if number else [True], ["one less"], [50]),
+    ]
+]
+# An instruction from a saved state, a history of as many places as it writes cells and of one more, and the number.
+NARROW_ROOMS = [
+    *[(name, *of) for name, of in product(ONE_CELL, [(1, 8), (2, 0)])],
+    *[("SWAP", 2, 8), ("SWAP", 3, 0)],
+    *[(name, 1, 0) for name in ("STOP", "JUMP", "JUMPC", "JUMPIND", "POPFBR", "WRITECH", "ADDSP", "POPSP")],
+]
 CUT = 400  # characters of a line that a difference shows
 
 
@@ -467,15 +505,18 @@ def save(path, setting):
     print(f"  these lines, whole: {path}")
 
 
-def compare_driver(command, script, path):
+def driver_answers(command, script):
+    """What the driver answers to each line that makes a call, none where it ended before, and its exit status."""
     text = "".join(line + "\n" for line, _ in script.lines).encode()
     output, status = ask(command, text)
     answers = iter(output.decode().splitlines())
-    for index, (line, expected) in enumerate(script.lines):
-        if expected is None:
-            continue
-        answered = next(answers, f"(nothing: the driver ended with status {status})")
+    return [None if expected is None else next(answers, None) for _, expected in script.lines], status
+
+
+def compare_driver(script, answers, status, path):
+    for index, ((line, expected), answered) in enumerate(zip(script.lines, answers)):
         if answered != expected:
+            answered = answered or f"(nothing: the driver ended with status {status})"
             setting = setting_of(script.lines, index)
             report(line.split(" ", 1)[0], setting, expected, answered)
             if path:
@@ -484,6 +525,30 @@ def compare_driver(command, script, path):
     if status != 0:
         print(f"DIFFERENT: the driver ended with status {status}")
     return status == 0
+
+
+def hold(script, lines, who, path):
+    """What request n says of two sessions, and of limits, judged by these answers alone."""
+    answers = rooms.Answers(lines)
+    faults = (judge(answers, *handed) for judge, *handed in script.held)
+    fault = next(filter(None, faults), None)
+    if fault:
+        setting = [line for index in fault.lines for line in setting_of(script.lines, index)]
+        print(f"NOT HELD by {who}: {fault.what}")
+        for line in setting:
+            print(f"  given    {shown(line, 0)}")
+        for index in fault.lines:
+            print(f"  answered {shown(lines[index], 0)}")
+        if path:
+            save(path, setting)
+    return not fault
+
+
+def hold_both(script, answers, path):
+    """The interpreter's answers; and the library's, where it gave one to each line."""
+    expected = [line for _, line in script.lines]
+    sides = [(expected, "the interpreter"), (answers, "the library")]
+    return all([hold(script, lines, *who, path) for lines, *who in sides if lines.count(None) == expected.count(None)])
 
 
 def console_sources(seed, count):
@@ -996,7 +1061,8 @@ def all_met(script):
     and without a history, to every kind of decimal, to the last codes, to every dwell, to every kept number, to every
     output, character, record and WRITECH that request h speaks of, to every forget and its room, to every depth list
     and every call with one, to every state saved and image loaded and every session carried on, to every why, to every
-    formula and its runs, and to a told and registers of another length wherever they are refused."""
+    formula and its runs, to every kind of two rooms and of limits, and to a told and registers of another length
+    wherever they are refused."""
     lines = product(FAULTS, (1, 2))
     single_tests = [*FLOAT_TESTS, *sum_tests(), *CONVERSION_TESTS, *CHARACTER_TESTS]
     tests = [(word, *test) for word in ("step", "plain") for test in single_tests]
@@ -1012,6 +1078,10 @@ def all_met(script):
     why_tolds = [(told_length, *of) for told_length, of in product(other_tolds(WHY_TOLD), WHY_NUMBERS)]
     drawn_formulas = [(kind, number) for kind, numbers in DRAWN_FORMULAS.items() for number in numbers]
     formula_tables = product(formulas.OTHER_PLACES, formulas.JUDGED)
+    room_starts = [("reset", 0), *[("load", number) for number in SESSION_NUMBERS]]
+    room_instructions = [*product(NAMES, (0, HISTORY_LIMIT), [0]), *NARROW_ROOMS]
+    taught_rooms = product(teaching.PROGRAMS, STARTS, TWO_ROOMS, ("step", "run"))
+    taught_limits = [(name, number) for name in teaching.PROGRAMS for number in (8, 2 if name == "complaint" else 0)]
     complete = [
         all_in(script.numbers, ALL_NUMBERS, "never given back"),
         all_in(script.fault_lines, lines, "faults never in the first line (1) or never in a later one (2)"),
@@ -1061,6 +1131,14 @@ def all_met(script):
         all_in(script.drawn_formulas, drawn_formulas, "formulas (kind, number) never drawn"),
         all_in(script.formula_tables, formula_tables, "formulas (places, number with 1,024) never refused"),
         all_in(script.formula_runs, FORMULA_RUNS, "formulas (short of, any history, any between, number) never run"),
+        all_in(script.room_steps, ROOM_STEPS, "sessions (start, rooms, who met 8, when or number) never made"),
+        all_in(script.room_runs, ROOM_RUNS, "runs (start, rooms, who ended with 8, number) never made"),
+        all_in(script.room_starts, room_starts, "sessions (start, number of the first step) never made"),
+        all_in(script.room_instructions, room_instructions, "instructions (name, H, number) never made in such a room"),
+        all_in(script.room_outputs, product(STARTS, TWO_ROOMS), "sessions (start, rooms) that never wrote"),
+        all_in(script.room_limits, ROOM_LIMITS, "runs (number, any history, any step, limit, its number) never made"),
+        all_in(script.taught_rooms, taught_rooms, "programs (name, start, rooms, call) never made"),
+        all_in(script.taught_limits, taught_limits, "programs (name, number) never run with larger limits"),
         all_in(script.wrong_tolds, told_tests(), "writers (told's, output's length, number of input) never refused"),
         all_in(script.register_lengths, length_tests(), "calls (number with nine, length, number) never refused"),
         all_in(script.resets, reset_tests(), "resets (registers, cells, tags, history, output, number) never made"),
@@ -1073,6 +1151,8 @@ def print_summary(script, seed, cases):
     numbers = " ".join(f"{number}:{script.numbers[number]}" for number in sorted(script.numbers))
     print(f"calls: {calls}")
     print(f"alike: seed {seed} cases {cases} calls {sum(script.numbers.values())} numbers {numbers}")
+    held = Counter(judge.__name__.removeprefix("judge_") for judge, *_ in script.held)
+    print("held on both sides: " + " ".join(f"{name} {count}" for name, count in sorted(held.items())))
 
 
 def main():
@@ -1088,7 +1168,9 @@ def main():
     words = parser.parse_args()
     families = words.only.split(",")
     script = make_script(words.seed, words.cases, families)
-    alike = compare_driver(words.driver, script, words.save)
+    answers, status = driver_answers(words.driver, script)
+    alike = compare_driver(script, answers, status, words.save)
+    alike = hold_both(script, answers, words.save if alike else None) and alike
     if alike:
         print_summary(script, words.seed, words.cases)
     if set(families) == set(FAMILIES):

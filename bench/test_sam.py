@@ -1,5 +1,5 @@
 #!/usr/bin/env python3
-"""Tests of the interpreter in sam/: the twelve P examples of document 01, its sentences, requests a, b and d to m, and
+"""Tests of the interpreter in sam/: the twelve P examples of document 01, its sentences, requests a, b and d to n, and
 the settled readings.
 
 Every expected value is read off the documents or worked out by hand; none is copied from an output.
@@ -20,6 +20,8 @@ import depths as depth_cases
 import formulas
 import programs
 import sam
+import teaching
+from machines import copied
 from sam import floats
 from sam.actions import CH, FLOAT, INT, MA, PA
 from sam.machine import plain_step
@@ -4279,6 +4281,191 @@ class Formula(unittest.TestCase):
             (" " * 65537, "refused 21: more than 65,536 bytes\n"),
         ]:
             self.assertEqual(sam.formula_console(self.EIGHT + text.encode()), printed, text[:20])
+
+
+class Rooms(unittest.TestCase):
+    """Request n: more room, the same evening."""
+
+    def started_in(self, made, n, h, output, image=None):
+        """A machine with this room after a reset, or after a load of this image."""
+        state = sam.State([9] * n, [1] * n, [9] * h, bytearray([9] * output))
+        self.assertEqual(sam.reset(made, state) if image is None else sam.load(made, state, image), 0)
+        return state
+
+    def saved(self, made, state):
+        image = bytearray(4638)
+        number, length = sam.save(made, state, image)
+        self.assertEqual(number, 0)
+        return bytes(image[:length])
+
+    def visible(self, state):
+        """ "cells, tags, output, PC, SP, FBR and HALT", and the output's count and N"""
+        r = state.registers
+        return state.bits, state.tags, state.output, r.pc, r.sp, r.fbr, r.halt, r.written, r.n
+
+    def check_steps(self, made, state, other, most):
+        """Whether the answers came to differ, by an 8, which changes nothing."""
+        self.assertEqual(self.visible(state), self.visible(other))
+        for _ in range(most):
+            before = contents(state), contents(other)
+            number, other_number = sam.step(made, state), sam.step(made, other)
+            if number != other_number:
+                self.assertEqual({number, other_number}, {0, 8})
+                refused, was = (state, before[0]) if number == 8 else (other, before[1])
+                self.assertEqual(contents(refused), was)
+                return True
+            self.assertEqual(self.visible(state), self.visible(other))
+            if number:
+                return False
+        return False
+
+    def check_runs(self, made, state, other, limit):
+        """The two numbers, as a set."""
+        run, other_run = sam.run(made, state, limit), sam.run(made, other, limit)
+        if (run, self.visible(state)) != (other_run, self.visible(other)):
+            self.assertIn(8, (run[0], other_run[0]))
+        return {run[0], other_run[0]}
+
+    def check_limits(self, made, state, most):
+        """The number of a run, which larger limits do not change where it ends, nor its steps and what it leaves."""
+        number, steps = sam.run(made, copied(state), most)
+        if number == 50:
+            return number
+        enough, least = steps + (number != 0), copied(state)
+        self.assertEqual(sam.run(made, least, enough), (number, steps))
+        for limit in (*range(enough + 1, enough + 10), most, 1000000):
+            again = copied(state)
+            self.assertEqual(sam.run(made, again, limit), (number, steps))
+            self.assertEqual(contents(again), contents(least))
+        if enough:
+            self.assertEqual(sam.run(made, copied(state), enough - 1), (50, enough - 1))
+        return number
+
+    # ---- by hand
+
+    def test_three_pushes(self):
+        """Each takes two places, and the end is 2: with three places the second is 8, where more room or none goes
+        on."""
+        for h, numbers in [
+            (0, [0, 0, 0, 2]), (1, [8]), (2, [0, 8]), (3, [0, 8]), (4, [0, 0, 8]), (5, [0, 0, 8]), (6, [0, 0, 0, 2]),
+            (7, [0, 0, 0, 2]), (8192, [0, 0, 0, 2]),
+        ]:  # fmt: skip
+            self.assertEqual(stepped("PUSHIMM 7 PUSHIMM 8 PUSHIMM 9", n=4, h=h)[0], numbers, h)
+        made = program("PUSHIMM 7 PUSHIMM 8 PUSHIMM 9")
+        state, other = self.started_in(made, 4, 3, 0), self.started_in(made, 4, 0, 0)
+        self.assertEqual((sam.step(made, state), sam.step(made, other)), (0, 0))
+        self.assertEqual((live(state), state.registers.pc), ([(INT, 7)], 1))
+        self.assertEqual(self.visible(state), self.visible(other))
+        self.assertEqual((sam.step(made, state), sam.step(made, other)), (8, 0))
+        self.assertEqual((live(state), state.registers.pc), ([(INT, 7)], 1))
+        self.assertEqual((live(other), other.registers.pc), ([(INT, 7), (INT, 8)], 2))
+
+    # A program, N, bytes of output, the places of each accepted step, and the number behind them.
+    ENDS = [
+        ("STOP", 1, 0, [1], 1),
+        ("JUMP 1", 1, 0, [1], 2),
+        ("", 1, 0, [], 2),
+        ("PUSHIMM 1 PUSHIMM 2 ADD ADD", 4, 0, [2, 2, 2], 3),
+        ("ADDSP 2 ADDSP -3", 4, 0, [3], 3),
+        ("LINK PUSHIMM 5 POPFBR", 4, 0, [2, 2], 4),
+        ("PUSHIMM 1 PUSHIMM 0 DIV", 4, 0, [2, 2], 5),
+        ("PUSHSP PUSHIND", 4, 0, [2], 6),
+        ("PUSHIMM 1 ADDSP 3", 4, 0, [2], 7),
+        ("a: PUSHIMMCH 65 WRITECH JUMP a", 3, 1, [2, 1, 1, 2], 12),
+        ("PUSHIMM 3 PUSHIMM 4 SWAP STOP", 4, 0, [2, 2, 3, 1], 1),
+    ]
+
+    def test_just_enough(self):
+        """The refusal is the same where no place is left, since 8 comes last; with one place less the last step that is
+        accepted otherwise is 8."""
+        for text, n, output, places, last in self.ENDS:
+            made, enough = program(text), sum(places)
+            for h in (0, enough, enough + 1, 8192):
+                state = self.started_in(made, n, h, output)
+                numbers = [sam.step(made, state) for _ in range(len(places) + 2)]
+                self.assertEqual(numbers, [0] * len(places) + [last, last], (text, h))
+                self.assertEqual(state.registers.used, enough if h else 0)
+            if enough > 1:
+                state = self.started_in(made, n, enough - 1, output)
+                numbers = [sam.step(made, state) for _ in range(len(places) + 1)]
+                self.assertEqual(numbers, [0] * (len(places) - 1) + [8, 8], text)
+
+    def test_limits_by_hand(self):
+        """A refusal is met by the step after those that are told, HALT 1 by none."""
+        for text, h, answers in [
+            ("PUSHIMM 1 STOP", 0, [(50, 0), (50, 1), (0, 2), (0, 2), (0, 2)]),
+            ("PUSHIMM 1 STOP", 3, [(50, 0), (50, 1), (0, 2), (0, 2), (0, 2)]),
+            ("PUSHIMM 1 STOP", 2, [(50, 0), (50, 1), (8, 1), (8, 1), (8, 1)]),
+            ("PUSHIMM 1 STOP", 1, [(50, 0), (8, 0), (8, 0), (8, 0), (8, 0)]),
+            ("PUSHIMM 1 ADD", 0, [(50, 0), (50, 1), (3, 1), (3, 1), (3, 1)]),
+            ("PUSHIMM 1 ADD", 2, [(50, 0), (50, 1), (3, 1), (3, 1), (3, 1)]),
+            ("", 0, [(50, 0), (2, 0), (2, 0), (2, 0), (2, 0)]),
+        ]:
+            for limit, answer in zip((0, 1, 2, 3, 1000000), answers):
+                made, state = started(text, n=4, h=h)
+                self.assertEqual(sam.run(made, state, limit), answer, (text, h, limit))
+
+    def test_halted(self):
+        """ "HALT 1 ends with 0", before the limit: 0 is enough, and more changes nothing."""
+        made, state = started("STOP", n=2, h=4)
+        self.assertEqual(sam.step(made, state), 0)
+        before = contents(state)
+        for limit in (0, 1, 2, 1000000):
+            self.assertEqual((sam.run(made, state, limit), contents(state)), ((0, 0), before))
+
+    def test_entry(self):
+        """No step's refusal: 10 whatever the limit is within its range, and 11 beyond it."""
+        made, state = started("PUSHIMM 1 STOP", n=2, h=4)
+        state.tags[1] = 5
+        before = contents(state)
+        for limit, number in [(0, 10), (1, 10), (2, 10), (1000000, 10), (1000001, 11)]:
+            self.assertEqual((sam.run(made, state, limit), contents(state)), ((number, 0), before))
+
+    # ---- programs
+
+    def drawn(self, chooser):
+        """A program, N and bytes of output."""
+        made = program(chooser.choice(self.ENDS)[0]) if chooser.randrange(8) == 0 else drawn_program(chooser)
+        return made, chooser.choice([1, 2, 5, 16, 60]), chooser.choice([0, 1, 4, 256])
+
+    def check_all(self, made, n, output, image, most, chooser, seen):
+        """Steps and runs in rooms around what they take, and larger limits in each."""
+        whole = self.started_in(made, n, 8192, output, image)
+        sam.run(made, whole, most)
+        enough = whole.registers.used
+        rooms = [0, chooser.randrange(1, 20), max(enough - 1, 0), enough, 8192]
+        for h, other_h in [chooser.sample(rooms, 2), chooser.sample(rooms, 2)]:
+            two = [self.started_in(made, n, room, output, image) for room in (h, other_h)]
+            seen["apart" if self.check_steps(made, *two, most) else "alike"] += 1
+            two = [self.started_in(made, n, room, output, image) for room in (h, other_h)]
+            numbers = self.check_runs(made, *two, chooser.choice([most, most // 2, 1000]))
+            seen[8 in numbers, len(numbers)] += 1
+            seen[self.check_limits(made, self.started_in(made, n, h, output, image), 2000)] += 1
+
+    def test_published(self):
+        """The programs of document 004, the panel and the complaint: from a reset, and saved half way."""
+        chooser, seen = random.Random(14), Counter()
+        for name in teaching.PROGRAMS:
+            made = teaching.program_of(name)
+            _, steps = sam.run(made, self.started_in(made, 60, 0, 5), 1000)
+            half = self.started_in(made, 60, 0, 5)
+            sam.run(made, half, steps // 2)
+            for image in (None, self.saved(made, half)):
+                self.check_all(made, 60, 5, image, steps + 1, chooser, seen)
+        self.assertEqual({2 if name == "complaint" else 0 for name in teaching.PROGRAMS} - set(seen), set())
+        self.assertGreater(min(seen["apart"], seen["alike"], seen[8]), 5)
+
+    def test_drawn(self):
+        """Any program and sizes, from a reset and from a state that was saved after some steps."""
+        chooser, seen = random.Random(15), Counter()
+        for _ in range(150):
+            made, n, output = self.drawn(chooser)
+            worked = self.started_in(made, n, 40, output)
+            sam.run(made, worked, chooser.randrange(30))
+            image = chooser.choice([None, self.saved(made, worked)])
+            self.check_all(made, n, output, image, chooser.randrange(1, 40), chooser, seen)
+        self.assertEqual({0, 2, 3, 4, 5, 6, 7, 8, 12} - set(seen), set())
+        self.assertGreater(min(seen["apart"], seen["alike"]), 20)
 
 
 class Soundness(unittest.TestCase):

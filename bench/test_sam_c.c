@@ -1,4 +1,4 @@
-/* Tests of the C library through sam.h: the complaint of document 01, those of requests b and d, requests e to m, and
+/* Tests of the C library through sam.h: the complaint of document 01, those of requests b and d, requests e to n, and
  * samples of every refusal. One line for each check. */
 #include <stdbool.h>
 #include <stdio.h>
@@ -3472,6 +3472,133 @@ static void test_lengths_of_formulas(void) {
     }
 }
 
+/* ---- more room and larger limits */
+
+enum { EVENING_STEPS = 8 };
+
+/* A program, cells and output; the steps that it makes, the history places that they take, and the number behind. */
+static const struct {
+    const char *source;
+    size_t cells, bytes, steps, places;
+    uint32_t last;
+} evenings[] = {
+    {"PUSHIMM 7 PUSHIMM 8 PUSHIMM 9", 4, 0, 3, 6, 2},
+    {"PUSHIMM 3 PUSHIMM 4 SWAP STOP", 4, 0, 4, 8, 1},
+    {"PUSHIMM 1 PUSHIMM 2 ADD ADD", 4, 0, 3, 6, 3},
+    {"LINK PUSHIMM 5 POPFBR", 4, 0, 2, 4, 4},
+    {"PUSHIMM 1 PUSHIMM 0 DIV", 4, 0, 2, 4, 5},
+    {"PUSHSP PUSHIND", 4, 0, 1, 2, 6},
+    {"PUSHIMM 1 ADDSP 3", 4, 0, 1, 2, 7},
+    {"a: PUSHIMMCH 65 WRITECH JUMP a", 3, 1, 4, 6, 12},
+};
+
+/* The session without a history, step by step, the last refused; after[0] is its start. */
+static size_t play_evening(size_t cells, struct machine *after, uint32_t *numbers) {
+    size_t count = 0;
+    check("  reset", 0, reset(cells, 0));
+    do {
+        remember();
+        after[count] = before;
+        numbers[count] = step();
+    } while (numbers[count++] == 0 && count < EVENING_STEPS);
+    return count - 1;
+}
+
+/* The same session in this room: alike for as many steps as both accept, which are told, and then 8 at most. */
+static size_t play_again(size_t cells, size_t places, const struct machine *after, const uint32_t *numbers,
+                         size_t steps) {
+    check("  reset", 0, reset(cells, places));
+    for (size_t i = 0; i <= steps; i++) {
+        check_as_original("  the same machine", &after[i]);
+        uint32_t number = step();
+        if (number == 8) {
+            check_as_original("  left by 8", &after[i]);
+            return i;
+        }
+        check("  the same answer", numbers[i], number);
+    }
+    check_as_original("  left by the last", &after[steps]);
+    return steps + 1;
+}
+
+/* Just enough room, in which 8 would come behind the last refusal, and all there can be; then ever less of it. */
+static void test_rooms(void) {
+    static struct machine after[EVENING_STEPS];
+    uint32_t numbers[EVENING_STEPS];
+    for (size_t i = 0; i < sizeof evenings / sizeof evenings[0]; i++) {
+        size_t cells = evenings[i].cells, enough = evenings[i].places, made = evenings[i].steps + 1;
+        printf("%s, in every room\n", evenings[i].source);
+        output_len = evenings[i].bytes;
+        check("  assemble", 0, assemble(evenings[i].source));
+        size_t steps = play_evening(cells, after, numbers);
+        check("  steps", evenings[i].steps, steps);
+        check("  the last", evenings[i].last, numbers[steps]);
+        check("  all", made, play_again(cells, SAM_HISTORY_LIMIT, after, numbers, steps));
+        check("  just enough", made, play_again(cells, enough, after, numbers, steps));
+        check("  one less", steps - 1, play_again(cells, enough - 1, after, numbers, steps));
+        for (size_t places = enough - 1; places > 1; places--) {
+            size_t more = play_again(cells, places, after, numbers, steps);
+            check("  no more in less", 1, play_again(cells, places - 1, after, numbers, steps) <= more);
+        }
+    }
+    output_len = SAM_OUTPUT_LIMIT;
+}
+
+/* A count down takes four steps and seven places a turn, besides a push before it and an instruction behind. */
+#define COUNT_DOWN "PUSHIMM 249999 a: PUSHIMM 1 SUB DUP JUMPC a "
+
+/* A program, history places, and the number and the steps of its run. */
+static const struct {
+    const char *source;
+    size_t places;
+    uint32_t number;
+    uint64_t steps;
+} long_runs[] = {
+    {COUNT_DOWN "STOP", 0, 0, 999998},
+    {COUNT_DOWN "ADD", 0, 3, 999997},
+    {"PUSHIMM 0 ADDSP -1 " COUNT_DOWN "STOP", 0, 0, SAM_RUN_LIMIT},
+    {"PUSHIMM 0 ADDSP -1 " COUNT_DOWN "ADD", 0, 3, SAM_RUN_LIMIT - 1},
+    {COUNT_DOWN "STOP", SAM_HISTORY_LIMIT, 8, 4681},     /* 2 + 1170 * 7 places: the next push finds none */
+    {COUNT_DOWN "STOP", SAM_HISTORY_LIMIT - 1, 8, 4680}, /* the last JUMPC finds none */
+};
+
+/* Runs from a reset with limits up to the greatest: too small a one by one, just enough, and larger ones. */
+static void test_larger_limits(void) {
+    for (size_t i = 0; i < sizeof long_runs / sizeof long_runs[0]; i++) {
+        uint64_t steps = long_runs[i].steps, enough = steps + (long_runs[i].number != 0);
+        printf("%s, H = %zu, with larger limits\n", long_runs[i].source, long_runs[i].places);
+        begin(long_runs[i].source, 4, long_runs[i].places);
+        check("  one less", 50, run(enough - 1));
+        check("  steps", enough - 1, told[0]);
+        check("  reset", 0, reset(n, h));
+        check("  just enough", long_runs[i].number, run(enough));
+        check("  steps", steps, told[0]);
+        remember();
+        const uint64_t larger[] = {enough + 1, enough + 2, (enough + SAM_RUN_LIMIT) / 2, SAM_RUN_LIMIT};
+        for (size_t j = 0; j < sizeof larger / sizeof larger[0]; j++) {
+            if (larger[j] > SAM_RUN_LIMIT) continue;
+            check("  reset", 0, reset(n, h));
+            check("  larger", long_runs[i].number, run(larger[j]));
+            check("  steps", steps, told[0]);
+            check_unchanged("  the same machine");
+        }
+    }
+}
+
+/* A run that finds HALT 1 needs no limit. */
+static void test_limits_of_halted(void) {
+    static const uint64_t limits[] = {0, 1, 2, SAM_RUN_LIMIT};
+    puts("a halted machine, with larger limits");
+    begin("STOP", 2, 4);
+    check("  step", 0, step());
+    remember();
+    for (size_t i = 0; i < sizeof limits / sizeof limits[0]; i++) {
+        check("  run", 0, run(limits[i]));
+        check("  steps", 0, told[0]);
+        check_unchanged("  unchanged");
+    }
+}
+
 /* ---- lists and images */
 
 static void test_list(void) {
@@ -3606,6 +3733,9 @@ int main(void) {
     test_refused_formulas();
     test_long_formulas();
     test_lengths_of_formulas();
+    test_rooms();
+    test_larger_limits();
+    test_limits_of_halted();
     test_list();
     test_images();
     printf("%u checks, %u failed\n", checks, failed);

@@ -1,4 +1,4 @@
-"""An interpreter of document 01 with requests a, b and d to m of document 02, written from the documents and their
+"""An interpreter of document 01 with requests a, b and d to n of document 02, written from the documents and their
 settled readings, to compare the proved one with."""
 
 from .console import cell_line, console, formula_console

@@ -39,6 +39,5 @@ load-origin p image m going = one-origin p _ _ (load image m m going going (own-
 
 -- the second of the two
 pub other-origin : (p : Program) (s t : State) → SameStart p s t → Origin p t (fresh t)
-other-origin p s t (reset m m′ ready ready′ same leaves leaves′) = subst (λ (o : State). Origin p o (fresh o)) (sym leaves′) (reset-origin p m′ ready′)
-other-origin p s t (load image m m′ going going′ same leaves leaves′) =
-    subst (λ (o : State). Origin p o (fresh o)) (sym leaves′) (load-origin p image m′ going′)
+other-origin p s t (reset m m′ ready ready′ same leaves leaves′) = one-origin p t t (reset m′ m′ ready′ ready′ (own-sizes m′) leaves′ leaves′)
+other-origin p s t (load image m m′ going going′ same leaves leaves′) = one-origin p t t (load image m′ m′ going′ going′ (own-sizes m′) leaves′ leaves′)

@@ -14,6 +14,7 @@ use Rattle.rules.specs.Step.{inHistory, carried}
 use Rattle.rules.specs.Step as Step
 use Rattle.rules.specs.Run.{Ran, ended, runFrom}
 use Rattle.rules.specs.declared.Registers.{Registers}
+use Rattle.rules.specs.declared.Effect.{Effect}
 use Rattle.rules.specs.declared.Decision.{Decision}
 use Rattle.rules.specs.declared.Decision.the-variants.{Does, Refuses}
 use Rattle.rules.specs.declared.MachineRefusal.{MachineRefusal}
@@ -26,38 +27,40 @@ use Rattle.rules.proofs.Runs.{run-halted, run-limit, run-next, run-refused}
 use Rattle.promises.specs.Series.{step, State, Session, stateOf, accepted, ask}
 use Rattle.promises.specs.Rooms.{HoldTheSame, full, SameOrFull, endNumber, EndAlike, AlikeUnlessFull}
 
--- ---- two answers to what one run decides
+-- ---- two answers to what one run decides, of machines with these registers
 
-pub data Together (one other : Step) : Type 0 where
-  both : (r r′ : Registers) → one ≡ Next r → other ≡ Next r′ → Together one other
-  neither : (y : MachineRefusal) → one ≡ Refused y → other ≡ Refused y → Together one other
-  one-full : (r′ : Registers) → one ≡ Refused HistoryFull → other ≡ Next r′ → Together one other
-  other-full : (r : Registers) → one ≡ Next r → other ≡ Refused HistoryFull → Together one other
+-- both are done, both are refused alike, or there is room for what is done in one history and not in the other
+pub data Together (r r′ : Registers) (one other : Step) : Type 0 where
+  both : (a a′ : Registers) → one ≡ Next a → other ≡ Next a′ → Together r r′ one other
+  neither : (y : MachineRefusal) → one ≡ Refused y → other ≡ Refused y → Together r r′ one other
+  one-full : (e : Effect) (a′ : Registers) → roomFor r e ≡ false → roomFor r′ e ≡ true → one ≡ Refused HistoryFull → other ≡ Next a′ → Together r r′ one other
+  other-full : (e : Effect) (a : Registers) → roomFor r e ≡ true → roomFor r′ e ≡ false → one ≡ Next a → other ≡ Refused HistoryFull → Together r r′ one other
 
 -- what is decided, asked for room and carried out by each
-pub one-decided : (r r′ : Registers) (m m′ : Memory) (d : Decision)
-    → Together (carried r m (inHistory r d) .answer) (carried r′ m′ (inHistory r′ d) .answer)
-one-decided r r′ m m′ (Refuses y) = neither y refl refl
-one-decided r r′ m m′ (Does e) = rooms (roomFor r e) (roomFor r′ e)
+pub decided-once : (r r′ : Registers) (m m′ : Memory) (d : Decision)
+    → Together r r′ (carried r m (inHistory r d) .answer) (carried r′ m′ (inHistory r′ d) .answer)
+decided-once r r′ m m′ (Refuses y) = neither y refl refl
+decided-once r r′ m m′ (Does e) = rooms (roomFor r e) refl (roomFor r′ e) refl
   where
-    rooms : (b b′ : Bool) → Together (carried r m (demand b HistoryFull (Does e)) .answer) (carried r′ m′ (demand b′ HistoryFull (Does e)) .answer)
-    rooms true true = both _ _ refl refl
-    rooms true false = other-full _ refl refl
-    rooms false true = one-full _ refl refl
-    rooms false false = neither HistoryFull refl refl
+    rooms : (b : Bool) → roomFor r e ≡ b → (b′ : Bool) → roomFor r′ e ≡ b′
+        → Together r r′ (carried r m (demand b HistoryFull (Does e)) .answer) (carried r′ m′ (demand b′ HistoryFull (Does e)) .answer)
+    rooms true f true g = both _ _ refl refl
+    rooms true f false g = other-full e _ f g refl refl
+    rooms false f true g = one-full e _ f g refl refl
+    rooms false f false g = neither HistoryFull refl refl
 
-pub same-or-full : {one other : Step} → Together one other → SameOrFull (numberOfStep one) (numberOfStep other)
-same-or-full (both r r′ e f) = inl (ap numberOfStep e ∙ sym (ap numberOfStep f))
+pub same-or-full : {r r′ : Registers} {one other : Step} → Together r r′ one other → SameOrFull (numberOfStep one) (numberOfStep other)
+same-or-full (both a a′ e f) = inl (ap numberOfStep e ∙ sym (ap numberOfStep f))
 same-or-full (neither y e f) = inl (ap numberOfStep e ∙ sym (ap numberOfStep f))
-same-or-full (one-full r′ e f) = inr (inl (ap numberOfStep e, ap numberOfStep f))
-same-or-full (other-full r e f) = inr (inr (ap numberOfStep e, ap numberOfStep f))
+same-or-full (one-full w a′ room room′ e f) = inr (inl (ap numberOfStep e, ap numberOfStep f))
+same-or-full (other-full w a room room′ e f) = inr (inr (ap numberOfStep e, ap numberOfStep f))
 
 -- answers of one number are both accepted or both refused
-pub same-accepted : {one other : Step} → Together one other → numberOfStep one ≡ numberOfStep other → accepted one ≡ accepted other
-same-accepted (both r r′ e f) q = ap accepted e ∙ sym (ap accepted f)
+pub same-accepted : {r r′ : Registers} {one other : Step} → Together r r′ one other → numberOfStep one ≡ numberOfStep other → accepted one ≡ accepted other
+same-accepted (both a a′ e f) q = ap accepted e ∙ sym (ap accepted f)
 same-accepted (neither y e f) q = ap accepted e ∙ sym (ap accepted f)
-same-accepted (one-full r′ e f) q = absurd (let z : ⊥ = omega (arith, sym (ap numberOfStep e) ∙ q ∙ ap numberOfStep f) in z)
-same-accepted (other-full r e f) q = absurd (let z : ⊥ = omega (arith, sym (ap numberOfStep e) ∙ q ∙ ap numberOfStep f) in z)
+same-accepted (one-full w a′ room room′ e f) q = absurd (let z : ⊥ = omega (arith, sym (ap numberOfStep e) ∙ q ∙ ap numberOfStep f) in z)
+same-accepted (other-full w a room room′ e f) q = absurd (let z : ⊥ = omega (arith, sym (ap numberOfStep e) ∙ q ∙ ap numberOfStep f) in z)
 
 -- where neither is 8, they are the same
 pub unless-full : {one other : ℕ} → SameOrFull one other → (one ≡ full → ⊥) → (other ≡ full → ⊥) → one ≡ other
@@ -73,7 +76,7 @@ module _ (p : Program) where
   answer u = Step.step p (u .registers) (u .memory) .answer
 
   -- a run from here, with so many steps left and made; and one that ends here
-  abbrev pub from : (left made : ℕ) → Session → Ran
+  abbrev from : (left made : ℕ) → Session → Ran
   from left made u = runFrom p left made (u .registers) (u .memory)
 
   abbrev stopped : (made : ℕ) → Ending → Session → Ran
@@ -103,19 +106,19 @@ module _ (p : Program) where
     both-halted : (left made : ℕ) → eqb (a .registers .halt) 1 ≡ true → Goes left made a b
     both-halted left made h = both-end left made Halted (run-halted p made _ _ left h) (run-halted p made _ _ left (same-halt h))
 
-    pub none-left : (made : ℕ) (h : Bool) → eqb (a .registers .halt) 1 ≡ h → Goes zero made a b
-    none-left made true h = both-halted zero made h
-    none-left made false h = both-end zero made LimitReached (run-limit p made _ _ h) (run-limit p made _ _ (same-halt h))
+    pub nsome-left : (made : ℕ) (h : Bool) → eqb (a .registers .halt) 1 ≡ h → Goes zero made a b
+    nsome-left made true h = both-halted zero made h
+    nsome-left made false h = both-end zero made LimitReached (run-limit p made _ _ h) (run-limit p made _ _ (same-halt h))
 
     module _ (left made : ℕ) (next : accepted (answer a) ≡ accepted (answer b) → Goes left (made + 1) (ask p a step) (ask p b step)) where
-      by-answers : eqb (a .registers .halt) 1 ≡ false → eqb (b .registers .halt) 1 ≡ false → Together (answer a) (answer b) → Goes (suc left) made a b
+      by-answers : eqb (a .registers .halt) 1 ≡ false → eqb (b .registers .halt) 1 ≡ false → Together (a .registers) (b .registers) (answer a) (answer b) → Goes (suc left) made a b
       by-answers h h′ (both r r′ e f) =
           subst₂ AlikeUnlessFull (sym (goes-on left made a r h e)) (sym (goes-on left made b r′ h′ f)) (next (ap accepted e ∙ sym (ap accepted f)))
       by-answers h h′ (neither y e f) =
           both-end (suc left) made (Stopped y) (refusal-ends left made a y h e) (refusal-ends left made b y h′ f)
-      by-answers h h′ (one-full r′ e f) = λ room room′. absurd (room (ap endNumber (refusal-ends left made a HistoryFull h e)))
-      by-answers h h′ (other-full r e f) = λ room room′. absurd (room′ (ap endNumber (refusal-ends left made b HistoryFull h′ f)))
+      by-answers h h′ (one-full w r′ some none e f) = λ room room′. absurd (room (ap endNumber (refusal-ends left made a HistoryFull h e)))
+      by-answers h h′ (other-full w r some none e f) = λ room room′. absurd (room′ (ap endNumber (refusal-ends left made b HistoryFull h′ f)))
 
-      pub one-left : Together (answer a) (answer b) → (h : Bool) → eqb (a .registers .halt) 1 ≡ h → Goes (suc left) made a b
-      one-left w true h = both-halted (suc left) made h
-      one-left w false h = by-answers h (same-halt h) w
+      pub some-left : Together (a .registers) (b .registers) (answer a) (answer b) → (h : Bool) → eqb (a .registers .halt) 1 ≡ h → Goes (suc left) made a b
+      some-left w true h = both-halted (suc left) made h
+      some-left w false h = by-answers h (same-halt h) w

@@ -123,4 +123,4 @@ use Rattle.rules.specs.Translations.{all-translated}
 
 -- and "Where a run ended with 0 or a step's refusal, any larger limit in range gives the same answer, step count and final state."
 use Rattle.promises.proofs.Rooms.{more-room}
-use Rattle.promises.specs.Evenings.{all-evenings, same-held}
+use Rattle.promises.specs.Evenings.{all-evenings, same-held, same-taken-back, starts, three-alike, same-run, same-broken}
