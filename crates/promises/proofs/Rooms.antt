@@ -38,7 +38,7 @@ use Rattle.promises.proofs.Demand3Origin.{one-origin, other-origin}
 use Rattle.promises.proofs.Demand3.{demand3}
 use Rattle.promises.proofs.Dwells.{dwell-afresh}
 use Rattle.promises.proofs.LargerLimit.{larger-limit}
-use Rattle.promises.proofs.SideBySide.{Together, both, neither, one-full, other-full, decided-once, same-or-full, same-accepted, unless-full, answer, Goes, nsome-left, some-left}
+use Rattle.promises.proofs.SideBySide.{Together, both, neither, one-full, other-full, decided-once, same-or-full, same-accepted, unless-full, answer, Goes, none-left, some-left}
 
 -- ---- a session beside the fresh run
 
@@ -56,11 +56,10 @@ module _ (p : Program) (o : State) (x : Unbounded) (u : Session) (v : Promised p
   stays-full q = go (inHistory (u .registers) (decided p (freshRun p x u))) (v .next)
     where
       go : (d : Decision) → Step.step p (u .registers) (u .memory) ≡ carried (u .registers) (u .memory) d → stateOf (ask p u step) ≡ stateOf u
-      go (Refuses y) e =
-          ap (λ (a : Stepped). stateOf (stepped u a)) e
+      go (Refuses y) e = ap (λ (a : Stepped). stateOf (stepped u a)) e
       go (Does f) e = absurd (let z : ⊥ = omega (arith, sym (ap (λ (a : Stepped). numberOfStep (a .answer)) e) ∙ q) in z)
 
--- its steps alone forget nothing, so that it uses the places of all the run's records
+-- steps alone forget nothing, so that the places of all the run's records are used
 used-steps : (p : Program) (o : State) (x : Unbounded) (k : ℕ) → Promised p o x (afresh p o k) → 0 < o .registers .h
     → afresh p o k .registers .used ≡ length (placesOf (take (ahead (afresh p o k)) (freshRun p x (afresh p o k) .records)))
 used-steps p o x k v some =
@@ -222,7 +221,7 @@ module _ (p : Program) (s t : State) (start : SameStart p s t) where
   step-more o qs = series-then p qs (step ∷ []) (begin o)
 
   all-turns : (left made : ℕ) (qs qs′ : List Request) → AsFar (one qs) (other qs′) → Goes p left made (one qs) (other qs′)
-  all-turns zero made qs qs′ far = nsome-left p (one qs) (other qs′) (hold qs qs′ far) made (eqb (one qs .registers .halt) 1) refl
+  all-turns zero made qs qs′ far = none-left p (one qs) (other qs′) (hold qs qs′ far) made (eqb (one qs .registers .halt) 1) refl
   all-turns (suc left) made qs qs′ far =
       some-left p (one qs) (other qs′) (hold qs qs′ far) left made
       (λ same.

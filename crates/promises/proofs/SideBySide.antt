@@ -106,9 +106,9 @@ module _ (p : Program) where
     both-halted : (left made : ℕ) → eqb (a .registers .halt) 1 ≡ true → Goes left made a b
     both-halted left made h = both-end left made Halted (run-halted p made _ _ left h) (run-halted p made _ _ left (same-halt h))
 
-    pub nsome-left : (made : ℕ) (h : Bool) → eqb (a .registers .halt) 1 ≡ h → Goes zero made a b
-    nsome-left made true h = both-halted zero made h
-    nsome-left made false h = both-end zero made LimitReached (run-limit p made _ _ h) (run-limit p made _ _ (same-halt h))
+    pub none-left : (made : ℕ) (h : Bool) → eqb (a .registers .halt) 1 ≡ h → Goes zero made a b
+    none-left made true h = both-halted zero made h
+    none-left made false h = both-end zero made LimitReached (run-limit p made _ _ h) (run-limit p made _ _ (same-halt h))
 
     module _ (left made : ℕ) (next : accepted (answer a) ≡ accepted (answer b) → Goes left (made + 1) (ask p a step) (ask p b step)) where
       by-answers : eqb (a .registers .halt) 1 ≡ false → eqb (b .registers .halt) 1 ≡ false → Together (a .registers) (b .registers) (answer a) (answer b) → Goes (suc left) made a b
