@@ -175,7 +175,8 @@ uint32_t sam_forget(const uint64_t *table, size_t places, uint64_t length, uint6
                     size_t h, uint8_t *output, size_t output_len);
 
 /* Makes steps until HALT is 1 (0), the limit is made (50) or a step is refused (its number); 11, then 10 at its entry.
- * told[1]: the number of steps made, which stand. A run that did not end with 50 is the same with any larger limit. */
+ * told[1]: the number of steps made, which stand. A run that did not end with 50 is the same with any larger limit up
+ * to SAM_RUN_LIMIT. */
 uint32_t sam_run(const uint64_t *table, size_t places, uint64_t length, uint64_t limit, uint64_t *registers,
                  size_t registers_len, uint32_t *bits, size_t n, uint8_t *tags, size_t tags_len, uint64_t *history,
                  size_t h, uint8_t *output, size_t output_len, uint64_t *told, size_t told_len);

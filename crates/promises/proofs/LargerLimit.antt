@@ -1,4 +1,4 @@
--- Request n: a run that did not end with 50 is the same with every larger limit. Assumes nothing.
+-- Request n: a run that did not end with 50 is the same with every larger limit in range. Assumes nothing.
 use Prim.Native.Nat.{ℕ, zero, suc, _+_, _≤_}
 use mathlib.Core.Path.{_≡_, refl, sym, ap, _∙_, subst}
 use mathlib.Core.Bool.{Bool, true, false}

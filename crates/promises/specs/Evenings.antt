@@ -6,7 +6,7 @@ use mathlib.Core.Path.{_≡_, refl, sym, _∙_}
 use mathlib.Core.Bool.{Bool, true, _&&_}
 use mathlib.Core.List.{List, [], _∷_}
 use native.Mathlib.Omega.{arith}
-use lib.ListN.{replicate}
+use lib.ListN.{length, replicate}
 use lib.Dec.{eqb}
 use Rattle.rules.specs.Lists.{every}
 use Rattle.rules.specs.Sizes.{maxHistory, stateSize}
@@ -146,16 +146,20 @@ all-evenings = refl
 
 -- ---- what both hold
 
+-- a machine without a history: PC, SP, FBR, HALT and the output's count, the cells with their tags, and the output; N is the number of cells
+abbrev byHand : (pc sp fbr halt written : ℕ) → (bits tags output : List ℕ) → State
+byHand pc sp fbr halt written bits tags output =
+    record {
+      registers = record { n = length bits; h = 0; pc = pc; sp = sp; fbr = fbr; halt = halt; used = 0; kept = 0; written = written };
+      memory = memory bits tags [] output;
+    }
+
 -- four cells, a byte written of two, a frame, and STOP: eight places for five steps
 abbrev panel : Program
 panel = programOf "PUSHIMM 7 PUSHIMMCH 66 WRITECH LINK STOP"
 
 abbrev held : State
-held =
-    record {
-      registers = record { n = 4; h = 0; pc = 4; sp = 2; fbr = 1; halt = 1; used = 0; kept = 0; written = 1 };
-      memory = memory (7 ∷ 0 ∷ 0 ∷ 0 ∷ []) (INT ∷ MA ∷ INT ∷ INT ∷ []) [] (66 ∷ 0 ∷ []);
-    }
+held = byHand 4 2 1 1 1 (7 ∷ 0 ∷ 0 ∷ 0 ∷ []) (INT ∷ MA ∷ INT ∷ INT ∷ []) (66 ∷ 0 ∷ [])
 
 -- with no history, with just enough, and with the most
 pub same-held : (withoutHistory (stateOf (afresh panel (fromReset panel 4 0 2) 5)) ≡ held)
@@ -169,11 +173,7 @@ abbrev complaint : Program
 complaint = programOf "PUSHIMM 40 PUSHIMMF #40200000 STOREOFF 0"
 
 abbrev tenths : State
-tenths =
-    record {
-      registers = record { n = 4; h = 0; pc = 2; sp = 2; fbr = 0; halt = 0; used = 0; kept = 0; written = 0 };
-      memory = memory (40 ∷ 0x40200000 ∷ 0 ∷ 0 ∷ []) (INT ∷ FLOAT ∷ INT ∷ INT ∷ []) [] [];
-    }
+tenths = byHand 2 2 0 0 0 (40 ∷ 0x40200000 ∷ 0 ∷ 0 ∷ []) (INT ∷ FLOAT ∷ INT ∷ INT ∷ []) []
 
 pub same-taken-back : (withoutHistory (stateOf (series complaint (step ∷ step ∷ step ∷ back ∷ []) (begin (fromReset complaint 4 8 0)))) ≡ tenths)
     × (withoutHistory (stateOf (afresh complaint (fromReset complaint 4 0 0) 2)) ≡ tenths)
@@ -210,10 +210,11 @@ three-alike (suc (suc (suc i))) low = absurd (let z : ⊥ = omega (arith, low) i
 abbrev few : Program
 few = programOf "PUSHIMM 1 ADD"
 
+abbrev fewLeft : State
+fewLeft = byHand 1 1 0 0 0 (1 ∷ 0 ∷ []) (INT ∷ INT ∷ []) []
+
 abbrev fewEnded : Ran
-fewEnded =
-    ended 1 (Stopped TooFewValues) (record { n = 2; h = 0; pc = 1; sp = 1; fbr = 0; halt = 0; used = 0; kept = 0; written = 0 })
-    (memory (1 ∷ 0 ∷ []) (INT ∷ INT ∷ []) [] [])
+fewEnded = ended 1 (Stopped TooFewValues) (fewLeft .registers) (fewLeft .memory)
 
 pub same-run : (runOf few (begin (fromReset few 2 0 0)) 2 ≡ fewEnded) × (runOf few (begin (fromReset few 2 0 0)) 1_000_000 ≡ fewEnded)
 unfolding holds
@@ -221,7 +222,7 @@ same-run = (refl, refl)
 
 -- a broken state, SP at N, with two limits in range
 abbrev broken : State
-broken = record { registers = record { n = 1; h = 0; pc = 0; sp = 1; fbr = 0; halt = 0; used = 0; kept = 0; written = 0 }; memory = lent 1 0 0 }
+broken = byHand 0 1 0 0 0 (0 ∷ []) (INT ∷ []) []
 
 pub same-broken : (runOf sum (begin broken) 1 ≡ ended 0 (Stopped Broken) (broken .registers) (broken .memory))
     × (runOf sum (begin broken) 1_000_000 ≡ ended 0 (Stopped Broken) (broken .registers) (broken .memory))

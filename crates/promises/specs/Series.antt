@@ -50,6 +50,10 @@ pub record State : Type 0 where
 abbrev pub plain : Unbounded → State
 plain x = record { registers = others (x .registers); memory = record { cells = x .cells; history = []; output = x .output } }
 
+-- what a run leaves
+abbrev pub leftByRun : Run.Ran → State
+leftByRun a = record { registers = a .answer .registers; memory = a .memory }
+
 -- where a series stands, with S, the steps accepted, B, the step-backs accepted, and F, "the sum of the k of those accepted"
 pub record Session : Type 0 where
   pub registers : Registers
@@ -136,15 +140,12 @@ afresh p o k = series p (replicate k step) (begin o)
 
 -- ---- where a series begins
 
--- what a reset leaves, what a load leaves, and what a run leaves
+-- what a reset leaves, and what a load leaves
 abbrev pub left : Reset.Started → State
 left o = record { registers = o .answer .registers; memory = o .memory }
 
 abbrev pub leftByLoad : SavedState.Loading → State
 leftByLoad o = record { registers = o .answer .registers; memory = o .memory }
-
-abbrev pub leftByRun : Run.Ran → State
-leftByRun a = record { registers = a .answer .registers; memory = a .memory }
 
 -- "its other sizes the same": as many cells, tags and bytes of output, whatever they hold
 pub record SameSizes (m m′ : Memory) : Type 0 where
