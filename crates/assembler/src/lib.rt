@@ -1,6 +1,7 @@
 // The assembler: from a source to a table of 1,024 places. The first pass judges the tokens from the left and keeps an item in the table for
 // each instruction; the second settles the targets in program order. The labels are one local of `assemble`, lent to both. Line and column are
 // counted once a source is refused.
+#![tactic(auto)]
 
 use held::{Translation, Verdict};
 use rules::{Assembled, NO_POSITION, TextRefusal, sizes};

@@ -1,4 +1,6 @@
 // Step-back: whether the top record of the history can be taken back, and what it keeps put back.
+#![tactic(auto)]
+
 ghost use Rattle.std.specs.Prelude.{◌≡◌, true, not, ◌||◌, ℕ, ◌≤◌, ◌<◌, ltb, length, get_or};
 ghost use Rattle.rules.specs.Places.{cell_address, cell_tag, cell_bits, step_pc, step_sp, step_fbr, step_count};
 ghost use Rattle.rules.specs.Table.{program};

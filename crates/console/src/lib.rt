@@ -1,4 +1,6 @@
 // What the console program prints for a source, in lent bytes.
+#![tactic(auto)]
+
 mod lines;
 mod panel;
 mod report;

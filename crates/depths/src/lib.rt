@@ -1,4 +1,6 @@
 // The depth checker: whether a list of stack depths fits the program that it came with.
+#![tactic(auto)]
+
 ghost use Rattle.std.specs.Prelude.{◌≡◌, ◌≤◌, ◌<◌, length};
 ghost use Rattle.rules.specs.Lists.{all};
 ghost use Rattle.rules.specs.Instructions.{row_of, action_of};

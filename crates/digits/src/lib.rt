@@ -1,5 +1,6 @@
 // Numbers as text in lent bytes: decimal, signed and hex. Each writer tells how long its text is, and writes as much of it as the slice has
 // room for, so that none of them can fail.
+#![tactic(auto)]
 
 ghost use Rattle.std.specs.Prelude.{◌≡◌, ℕ, ◌+◌, ◌≤◌, ◌<◌, length, set};
 ghost use Rattle.std.proofs.lemmas.List.Edits.{sets};

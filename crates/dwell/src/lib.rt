@@ -1,5 +1,7 @@
 // The dwell reader of the door board: how long the doors stay open, in tenths of a second, read off cell 0 of a halted machine. It is lent what a step is
 // lent, and writes nothing.
+#![tactic(auto)]
+
 ghost use Rattle.std.specs.Prelude.{◌≡◌};
 ghost use Rattle.rules.specs.Table.{program};
 ghost use Rattle.rules.specs.State.{memory};

@@ -1,5 +1,7 @@
 // Fields of bits in lent bytes, most significant bit first, at any bit and of any width up to 64. No call can fail: a field that is wider or not
 // inside the bytes is not written, and reads as 0.
+#![tactic(auto)]
+
 mod inside;
 mod whole;
 

@@ -1,6 +1,8 @@
 // The F operations on words, each by one operation of f32 between the value of the bits and the bits of the value; and EQUAL of two FLOATs, by the bits.
 // f32's own readings are undefined at a NaN, so that a NaN is told apart before and after. It is told apart by a branch, so that the two words are
 // read one by one, as they were written.
+#![tactic(auto)]
+
 ghost use Rattle.std.specs.Prelude.{◌≡◌, from_bits, is_nan, to_bits};
 ghost use Rattle.std.specs.Float.{binary32};
 ghost use Rattle.rules.specs.Floats.{plus_f, minus_f, times_f, quotient_f, unordered, ordered_f, equal_f};

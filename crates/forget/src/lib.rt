@@ -1,4 +1,6 @@
 // Forget: the oldest kept steps are given up, the records of the others move down, and the room gained is zeroed.
+#![tactic(auto)]
+
 ghost use Rattle.std.specs.Prelude.{◌≡◌, ◌-◌, ◌≤◌, length};
 ghost use Rattle.rules.specs.Table.{program};
 ghost use Rattle.rules.specs.State.{memory};

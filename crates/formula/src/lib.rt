@@ -1,5 +1,6 @@
 // The formula translator: from a formula to a program in a table of 1,024 places, the most values that it holds told with it. It recurses over brackets and minus
 // signs with the remaining nesting falling. The code of what is read is written at once, so that no tree is held.
+#![tactic(auto)]
 
 use parts::Part;
 use rules::{FormulaRefusal, Translated, sizes};

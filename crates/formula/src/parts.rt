@@ -12,7 +12,7 @@ use program::table::CODE_WEIGHT;
 use rules::{FormulaRefusal, Operator, codes, sizes, words};
 
 // Where reading has come to: the next byte, how many instructions are written, and how many values the code of the part that was read last holds at most.
-#[derive(Drop)]
+#[derive(Clone, Copy)]
 pub(crate) struct Reached {
     pub at: usize,
     pub written: usize,
@@ -20,7 +20,7 @@ pub(crate) struct Reached {
 }
 
 // A part of a formula: read, or refused.
-#[derive(Drop)]
+#[derive(Clone, Copy)]
 pub(crate) enum Part {
     Read(Reached),
     Unread(FormulaRefusal),

@@ -6,7 +6,7 @@ ghost use Rattle.formula.specs.Scans.{tokens_from, number_from, Skipped, Stands,
 use rules::{FormulaRefusal, Operator, sizes};
 
 // What stands next: a token, with where it ends, a number that is too large, a byte that no formula has, or the formula's end.
-#[derive(Drop)]
+#[derive(Clone, Copy)]
 pub(crate) enum Next {
     Number(usize, usize),
     TooLarge,
@@ -19,14 +19,14 @@ pub(crate) enum Next {
 }
 
 // An operator that was looked for, with where it ends, or something else.
-#[derive(Drop)]
+#[derive(Clone, Copy)]
 pub(crate) enum Following {
     Found(Operator, usize),
     Other,
 }
 
 // What a token opens, with where it ends: a unary minus, where an operand may stand, a bracket, or neither.
-#[derive(Drop)]
+#[derive(Clone, Copy)]
 pub(crate) enum Opened {
     Minus(usize),
     Bracket(usize),

@@ -1,4 +1,6 @@
 // The packer and the unpacker: a program's table as an image of bits, and back.
+#![tactic(auto)]
+
 use rules::{ImageRefusal, Packed, sizes};
 
 mod operands;

@@ -7,6 +7,8 @@
 //   s  a length and places, of which the last is missing: packed
 //   u  the bytes of an image: unpacked
 //   v  the same into a table one place short
+#![tactic(auto)]
+
 use libc::STDIN_FILENO;
 use rules::sizes::{IMAGE_SIZE, MAX_PROGRAM};
 

@@ -1,4 +1,6 @@
 // Lent slices set to zero: the whole of one, or as a refused writer leaves its output.
+#![tactic(auto)]
+
 ghost use Rattle.std.specs.Prelude.{◌≡◌, length, replicate};
 ghost use Rattle.rules.specs.Outputs.{blanked};
 

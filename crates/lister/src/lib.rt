@@ -1,4 +1,6 @@
 // The lister: a program as text that assembles to it again.
+#![tactic(auto)]
+
 mod line;
 mod lines;
 

@@ -2,11 +2,13 @@
 // the length of the listing, and 1 where the listing was assembled to the same number of instructions and the same table. The sources are of
 // the documents' sentences, whole and damaged, and at the edges of its sizes: standard input has all but the longest, last 256 and 257 labels,
 // 1,024 and 1,025 instructions, and the program of the longest listing. After them the number alone of listings that are refused, or not.
+#![tactic(auto)]
+
 use libc::{STDIN_FILENO, STDOUT_FILENO};
 use rules::sizes::{LISTING_SIZE, MAX_PROGRAM, MAX_SOURCE};
 
 // What a call tells: its number; and the number of instructions or the length of the listing, or a refused source's place.
-#[derive(Drop)]
+#[derive(Clone, Copy)]
 struct Told {
     number: u32,
     value: usize,

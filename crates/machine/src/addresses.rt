@@ -38,7 +38,7 @@ pub(crate) fn memory_address(bits: u32) -> MemoryAddress
 }
 
 // Where an offset leads from a base: to an address, or below 0.
-#[derive(Drop)]
+#[derive(Clone, Copy)]
 pub enum Reach {
     To(MemoryAddress),
     Below,

@@ -1,4 +1,6 @@
 // The machine: one step, and a run of steps. A step first decides what it does or why it is refused, then carries that out.
+#![tactic(auto)]
+
 mod addresses;
 mod carry;
 mod cells;

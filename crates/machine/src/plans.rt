@@ -2,7 +2,7 @@
 // plan means as a decision of the rules says specs/Plan.antt. Each maker below makes the plan of the effect that has its name in the rules.
 ghost use Rattle.std.specs.Prelude.{◌≡◌, ◌-◌, ◌≤◌};
 ghost use Rattle.rules.specs.Cells.{Cells, cell_at};
-ghost use Rattle.rules.specs.Effects.{result, swapped, stored, moved, framed, linked, jumped, called, shown, halted, program_address};
+ghost use Rattle.rules.specs.Effects.{result as pushed_result, swapped, stored, moved, framed, linked, jumped, called, shown, halted, program_address};
 ghost use Rattle.rules.specs.declared.Decision.TheVariants.{Does};
 ghost use Rattle.machine.specs.Small.{Small};
 ghost use Rattle.rules.specs.Step.{in_stack};
@@ -11,7 +11,7 @@ ghost use Rattle.machine.specs.Plan.{planned, Means};
 use rules::{Cell, MemoryAddress, Registers, tags};
 
 // Accepted: what is done says the shape's clause in specs/Plan.antt. Then the refusals 3 to 7.
-#[derive(Drop)]
+#[derive(Clone, Copy)]
 pub enum Shape {
     Jump,
     Move,
@@ -32,7 +32,7 @@ pub enum Shape {
 }
 
 // A shape with the new SP, an address of cells, and a cell to write, or a program address or a character as the bits. What a shape does not need is never read.
-#[derive(Drop)]
+#[derive(Clone, Copy)]
 pub struct Plan {
     pub shape: Shape,
     pub sp: usize,
@@ -85,7 +85,7 @@ pub(crate) const STACK_FULL: Plan = Plan {
 // A cell is pushed, where SP stays below N.
 pub(crate) fn pushed(r: Registers, c: Cell) -> Plan
     requires { Small r }
-    ensures* { λ d. ⌜ Means r d (Does (result r 0 c)) ⌝ }
+    ensures { Means r result (Does (pushed_result r 0 c)) }
 {
     if r.n <= r.sp + 1 {
         return STACK_FULL;
@@ -102,7 +102,7 @@ pub(crate) fn pushed(r: Registers, c: Cell) -> Plan
 // `popped` values are popped and a cell is pushed: SP does not rise.
 pub(crate) fn result(r: Registers, popped: usize, c: Cell) -> Plan
     requires { Small r × (1 ≤ popped) × (popped ≤ r.sp) }
-    ensures* { λ d. ⌜ Means r d (Does (result r popped c)) ⌝ }
+    ensures { Means r result (Does (pushed_result r popped c)) }
 {
     Plan {
         shape: Shape::Result,
@@ -116,7 +116,7 @@ pub(crate) fn result(r: Registers, popped: usize, c: Cell) -> Plan
 // The two top values change places.
 pub(crate) fn swapped(r: Registers) -> Plan
     requires { Small r }
-    ensures* { λ d. ⌜ ((c : Cells) → planned r c d ≡ in_stack r (Does (swapped r (cell_at c (record { 0 = r.sp - 2 })) (cell_at c (record { 0 = r.sp - 1 }))))) ⌝ }
+    ensures { (c : Cells) → planned r c result ≡ in_stack r (Does (swapped r (cell_at c (record { 0 = r.sp - 2 })) (cell_at c (record { 0 = r.sp - 1 })))) }
 {
     Plan {
         shape: Shape::Swap,
@@ -130,7 +130,7 @@ pub(crate) fn swapped(r: Registers) -> Plan
 // `popped` values are popped and the top is stored.
 pub(crate) fn stored(r: Registers, popped: usize, a: MemoryAddress) -> Plan
     requires { Small r × (popped ≤ r.sp) }
-    ensures* { λ d. ⌜ ((c : Cells) → planned r c d ≡ in_stack r (Does (stored r popped a (cell_at c (record { 0 = r.sp - 1 }))))) ⌝ }
+    ensures { (c : Cells) → planned r c result ≡ in_stack r (Does (stored r popped a (cell_at c (record { 0 = r.sp - 1 })))) }
 {
     Plan {
         shape: Shape::Store,
@@ -144,7 +144,7 @@ pub(crate) fn stored(r: Registers, popped: usize, a: MemoryAddress) -> Plan
 // SP moves from `popped` to an address below N; the cells between are zeroed where it moves up.
 pub(crate) fn moved(r: Registers, popped: usize, a: MemoryAddress) -> Plan
     requires { Small r × (popped ≤ r.sp) }
-    ensures* { λ d. ⌜ Means r d (Does (moved r popped a)) ⌝ }
+    ensures { Means r result (Does (moved r popped a)) }
 {
     if a.0 <= popped {
         return Plan {
@@ -170,7 +170,7 @@ pub(crate) fn moved(r: Registers, popped: usize, a: MemoryAddress) -> Plan
 // FBR is set from the popped top.
 pub(crate) fn framed(r: Registers, a: MemoryAddress) -> Plan
     requires { Small r × (1 ≤ r.sp) }
-    ensures* { λ d. ⌜ Means r d (Does (framed r a)) ⌝ }
+    ensures { Means r result (Does (framed r a)) }
 {
     Plan {
         shape: Shape::Frame,
@@ -184,7 +184,7 @@ pub(crate) fn framed(r: Registers, a: MemoryAddress) -> Plan
 // The old FBR is pushed, where SP stays below N, and FBR is the old SP.
 pub(crate) fn linked(r: Registers) -> Plan
     requires { Small r }
-    ensures* { λ d. ⌜ Means r d (Does (linked r)) ⌝ }
+    ensures { Means r result (Does (linked r)) }
 {
     if r.n <= r.sp + 1 {
         return STACK_FULL;
@@ -201,7 +201,7 @@ pub(crate) fn linked(r: Registers) -> Plan
 // `popped` values are popped, and PC is set.
 pub(crate) fn jumped(r: Registers, popped: usize, target: u32) -> Plan
     requires { Small r × (popped ≤ r.sp) }
-    ensures* { λ d. ⌜ Means r d (Does (jumped r popped (program_address target))) ⌝ }
+    ensures { Means r result (Does (jumped r popped (program_address target))) }
 {
     Plan {
         shape: Shape::Jump,
@@ -215,7 +215,7 @@ pub(crate) fn jumped(r: Registers, popped: usize, target: u32) -> Plan
 // `popped` values are popped, PC is set, and the address after the call is pushed, where SP stays below N.
 pub(crate) fn called(r: Registers, popped: usize, target: u32) -> Plan
     requires { Small r × (popped ≤ r.sp) }
-    ensures* { λ d. ⌜ Means r d (Does (called r popped (program_address target))) ⌝ }
+    ensures { Means r result (Does (called r popped (program_address target))) }
 {
     let at = r.sp - popped;
     if r.n <= at + 1 {
@@ -233,7 +233,7 @@ pub(crate) fn called(r: Registers, popped: usize, target: u32) -> Plan
 // The top is popped, and its bits are shown.
 pub(crate) fn shown(r: Registers, character: u32) -> Plan
     requires { Small r × (1 ≤ r.sp) }
-    ensures* { λ d. ⌜ Means r d (Does (shown r character)) ⌝ }
+    ensures { Means r result (Does (shown r character)) }
 {
     Plan {
         shape: Shape::Show,
@@ -247,7 +247,7 @@ pub(crate) fn shown(r: Registers, character: u32) -> Plan
 // HALT is set, and PC stays.
 pub(crate) fn halted(r: Registers) -> Plan
     requires { Small r }
-    ensures* { λ d. ⌜ Means r d (Does (halted r)) ⌝ }
+    ensures { Means r result (Does (halted r)) }
 {
     Plan {
         shape: Shape::Halt,

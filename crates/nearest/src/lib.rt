@@ -2,3 +2,4 @@
 // This crate has no function: specs/ has the statements' definitions, over whole numbers and bits alone, and proofs/ the theorems: the four F operations,
 // CMPF and EQUAL in proofs/Cells.antt, EQUAL and ISNIL of any bits in proofs/Equal.antt, decimals, ITOF and FTOI in proofs/Conversions.antt, tenths in
 // proofs/Tenths.antt.
+#![tactic(auto)]

@@ -1,4 +1,6 @@
 // "Numbers given back": the number that a refusal or a call's answer stands for, and the values that it tells.
+#![tactic(auto)]
+
 ghost use Rattle.std.specs.Prelude.{◌≡◌};
 ghost use Rattle.rules.specs.Numbers.{machine_number, text_number, image_number, number_of_reset, number_of_step, number_of_ending, number_of_assembled, length_of_assembled, position_of_assembled, number_of_listed, length_of_listed, number_of_packed, length_of_packed, unread_number, number_of_dwell, tenths_of_dwell, forget_number, number_of_forgot, depth_number, number_of_checked, place_of_checked, save_number, number_of_saved, length_of_saved, load_number, number_of_load, unnamed_number, number_of_why, found_of_why, step_of_why, formula_number, number_of_translated, length_of_translated, depth_of_translated};
 

@@ -1,5 +1,7 @@
 // Number operands as text: an optional minus and digits within bounds, and the bits or the decimal of PUSHIMMF. It follows "Text, table, image" of
 // document 01, and letter e of document 02.
+#![tactic(auto)]
+
 mod decimals;
 
 ghost use Rattle.std.specs.Prelude.{◌≡◌, ◌≤◌, length};

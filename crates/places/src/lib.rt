@@ -1,5 +1,7 @@
 // History places: each field of the two kinds of place, read. Every width is that of document 01, "History places", and document 02, letter h. The machine
 // makes the places.
+#![tactic(auto)]
+
 ghost use Rattle.std.specs.Prelude.{◌≡◌};
 ghost use Rattle.rules.specs.Places.{mark, cell_address, cell_tag, cell_bits, cell_zeros, step_pc, step_sp, step_fbr, step_count, step_zeros};
 

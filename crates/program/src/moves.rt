@@ -7,7 +7,7 @@ ghost use Rattle.program.specs.Moves.{moves_of};
 use rules::{codes, words};
 
 // How many values an instruction needs, and how many it leaves in their place.
-#[derive(Drop)]
+#[derive(Clone, Copy)]
 pub struct Moves {
     pub needs: u32,
     pub leaves: u32,

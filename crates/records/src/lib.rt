@@ -1,4 +1,6 @@
 // The records of a history: whether one of them is well formed, and what a forget and a why ask of all that are in use.
+#![tactic(auto)]
+
 mod parts;
 mod walk;
 
@@ -24,7 +26,7 @@ pub fn is_formed_record(history: &[u64], last: usize, n: usize, count: usize) ->
 
 // What a forget and a why ask of the records in use: whether each is well formed and they are as many as are kept; and how many places lie below the newest `stay` of
 // them, 0 where it is not so.
-#[derive(Drop)]
+#[derive(Clone, Copy)]
 pub struct Judgement {
     pub passes: bool,
     pub below: usize,

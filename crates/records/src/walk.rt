@@ -6,7 +6,7 @@ use crate::is_formed_record;
 
 // What a walk over the records in use finds: whether each is well formed, how many there are, and how many places those take that lie below the newest of them.
 // Both numbers are 0 where a record is not well formed.
-#[derive(Drop)]
+#[derive(Clone, Copy)]
 pub(crate) struct Walk {
     pub formed: bool,
     pub records: usize,

@@ -1,5 +1,7 @@
 // The console program: reads a source from standard input and prints what the machine makes of it. A byte more than the longest source is
 // read, so that one that is too long is told apart.
+#![tactic(auto)]
+
 use libc::{STDIN_FILENO, STDOUT_FILENO};
 use rules::sizes;
 

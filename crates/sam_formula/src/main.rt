@@ -1,5 +1,7 @@
 // The formula program: prints the listing, the depth and the number of a formula, or why there is none. The first line of standard input is a source that pushes
 // the numbers of a to h and stops; all behind it is the formula. So no number is read here: the assembler reads them, and the machine pushes them.
+#![tactic(auto)]
+
 use libc::STDIN_FILENO;
 use rules::sizes::{MAX_PROGRAM, MAX_SOURCE, NAME_CELLS};
 use rules::{Translated, tags};

@@ -1,4 +1,6 @@
 // Saved states: a machine's state as an image of bits, and a machine that goes on from one.
+#![tactic(auto)]
+
 use rules::{Load, LoadRefusal, Registers, Resumed, SaveRefusal, Saved, sizes};
 
 mod head;

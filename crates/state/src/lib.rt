@@ -1,4 +1,6 @@
 // The state between steps: whether a table, registers and lent slices are sound (document 01's 10, with what requests g and h add to it), and the reset.
+#![tactic(auto)]
+
 ghost use Rattle.std.specs.Prelude.{◌≡◌, length, replicate};
 ghost use Rattle.rules.specs.Lists.{every};
 ghost use Rattle.rules.specs.Table.{program};

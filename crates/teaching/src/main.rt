@@ -1,6 +1,8 @@
 // Runs the published programs of document 004 in the slides' order, the word for the landing panel, and the complaint. The programs are those of
 // standard input, each with its name behind it in a line that `~` begins; `bench/teaching` has their texts, the published ones as the slides do. What
 // it writes is held to what an independent interpreter of document 01 prints for the same sources (`bench/teaching.py`).
+#![tactic(auto)]
+
 use libc::STDIN_FILENO;
 
 mod complaint;

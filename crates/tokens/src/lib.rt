@@ -1,5 +1,6 @@
 // The scanner: the tokens of a source, one at a time, by their places. It follows "Text, table, image" of document 01: separators and
 // comments stand between tokens, and a colon ends one.
+#![tactic(auto)]
 
 ghost use Rattle.std.specs.Prelude.{◌≡◌, false, ◌≤◌, ◌<◌, length, drop};
 ghost use Rattle.rules.specs.Bytes.{blank};
@@ -7,7 +8,7 @@ ghost use Rattle.rules.specs.Tokens.{opens, stops};
 ghost use Rattle.tokens.specs.Next.{Skipped, Ended, Closed, NextIs};
 
 // What stands next in a source: a token, from its first byte to just before an end, or nothing.
-#[derive(Drop)]
+#[derive(Clone, Copy)]
 pub enum Next {
     Found(usize, usize),
     Done,

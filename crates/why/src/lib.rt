@@ -1,4 +1,6 @@
 // Why a cell holds what it holds: the newest kept step that wrote it, with what it held before.
+#![tactic(auto)]
+
 ghost use Rattle.std.specs.Prelude.{◌≡◌, ◌≤◌, ◌<◌, length};
 ghost use Rattle.rules.specs.Places.{step_pc};
 ghost use Rattle.rules.specs.Table.{program};
