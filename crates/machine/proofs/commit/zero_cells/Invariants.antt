@@ -1,0 +1,14 @@
+-- `machine::commit::zero_cells` meets its contract. The loop's invariant: the zeros left to write give what all of them give. Assumes nothing.
+use Prim.Native.Nat.{ℕ, ◌-◌, ◌≤◌, ◌<◌}
+use mathlib.Core.Path.{sym}
+use native.Mathlib.Omega.{arith}
+use borrow.Author.Rules.{rules}
+use lib.ListN.{length, replicate, length-replicate, get_or-replicate}
+use Rattle.rules.proofs.Stored.{Stored, stored_none, stored_more, stored_all}
+use Rattle.machine.proofs.commit.zero_cells.Given as goal
+
+abbrev pub invariant-loop-i : goal.invariant-loop-i
+invariant-loop-i l = (l.i ≤ l.count) × Stored l.initial.bits l.bits (replicate l.count 0) l.from l.i × Stored l.initial.tags l.tags (replicate l.count 0) l.from l.i
+
+abbrev pub decreases-loop-i : goal.decreases-loop-i
+decreases-loop-i l = l.count - l.i

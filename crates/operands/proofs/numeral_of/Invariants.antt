@@ -1,0 +1,16 @@
+-- `operands::numeral_of` meets its contract. Invariant: all digits make what those from `i` on make after `n`, and `n` is below 17 to the digits read. Assumes nothing.
+use native.Mathlib.Nat.{mul-le-mul_left}
+use Rattle.operands.proofs.Laws as law
+use Rattle.rules.specs.Operands.{numeral}
+use lib.ListN.{length, drop}
+use Prim.Native.Nat.{ℕ, ◌≤◌, ◌<◌, ◌-◌, ◌+◌, ◌*◌, ◌^◌}
+use mathlib.Core.Path.{◌≡◌, refl, sym, ◌∙◌, ap}
+use native.Mathlib.Omega.{arith}
+use borrow.Author.Rules.{rules}
+use Rattle.operands.proofs.numeral_of.Given as goal
+
+abbrev pub invariant-loop-i : goal.invariant-loop-i
+invariant-loop-i l = (l.i ≤ length l.ds) × (l.n < 17 ^ l.i) × (numeral l.base 0 l.ds ≡ numeral l.base l.n (drop l.i l.ds))
+
+abbrev pub decreases-loop-i : goal.decreases-loop-i
+decreases-loop-i l = length l.ds - l.i

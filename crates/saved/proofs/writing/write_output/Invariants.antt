@@ -1,0 +1,22 @@
+-- The loop's invariant: the first i bytes stand from bit `at` on. Assumes nothing.
+use Prim.Native.Nat.{ℕ, ◌-◌, ◌*◌, ◌≤◌}
+use mathlib.Core.Path.{◌≡◌, refl, sym, ap, ◌∙◌}
+use mathlib.Core.List.{List}
+use native.Mathlib.Omega.{arith}
+use borrow.Author.Rules.{rules}
+use lib.Dec.{lit≤}
+use lib.ListN.{length, get_or, take}
+use Rattle.rules.specs.Lists.{splice}
+use Rattle.rules.specs.Sizes.{state_size}
+use Rattle.rules.specs.Fields.{field, bits_of}
+use Rattle.rules.proofs.Fields.{bits_of_length, bits_of_front}
+use Rattle.rules.proofs.Splice.{splice_none}
+use Rattle.saved.proofs.Columns.{written_behind, bytes_more}
+use Rattle.saved.proofs.writing.write_output.Given as goal
+
+abbrev pub invariant-loop-i : goal.invariant-loop-i
+invariant-loop-i l =
+    (l.i ≤ l.written) × (length l.image ≡ state_size) × (bits_of l.image ≡ splice (bits_of l.initial.image) l.at (bits_of (take l.i l.output)))
+
+abbrev pub decreases-loop-i : goal.decreases-loop-i
+decreases-loop-i l = l.written - l.i

@@ -1,0 +1,14 @@
+-- `state::clear_cells` meets its contract. The loop's invariant: the bits and the tags passed are zero. Assumes nothing.
+use Prim.Native.Nat.{◌-◌}
+use mathlib.Core.Path.{◌≡◌}
+use native.Mathlib.Omega.{arith}
+use borrow.Author.Rules.{rules}
+use lib.ListN.{length}
+use Rattle.rules.proofs.Stored.{Cleared, cleared_none, cleared_more, cleared_all}
+use Rattle.state.proofs.clear_cells.Given as goal
+
+abbrev pub invariant-loop-cell : goal.invariant-loop-cell
+invariant-loop-cell l = Cleared l.initial.bits l.bits l.cell × Cleared l.initial.tags l.tags l.cell
+
+abbrev pub decreases-loop-cell : goal.decreases-loop-cell
+decreases-loop-cell l = length l.initial.bits - l.cell
