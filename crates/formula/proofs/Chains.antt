@@ -46,6 +46,10 @@ stands_follows f sums ts (Closing end) e = ap (following (these sums)) e
 stands_follows f sums ts Forbidden e = ap (following (these sums)) e.1
 stands_follows f sums ts End e = ap (following (these sums)) e
 
+-- what was found of what stands next
+pub found_next : (f : List ℕ) (sums : Bool) (ts : List Token) (x : Next) (s : Sought) → Stands f ts x → s ≡ following_by sums x → Follows f sums ts s
+found_next f sums ts x s h e = subst (Follows f sums ts) (sym e) (stands_follows f sums ts x h)
+
 -- ---- tokens are used up
 
 abbrev most : Bool → ℕ → ℕ

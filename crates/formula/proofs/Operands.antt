@@ -107,6 +107,10 @@ stands_opens f ts (Closing end) e = tt
 stands_opens f ts Forbidden e = tt
 stands_opens f ts End e = tt
 
+-- what was opened by what stands next
+pub opened_next : (f : List ℕ) (ts : List Token) (x : Next) (o : Opened) → Stands f ts x → o ≡ opened_by x → Opens f ts o
+opened_next f ts x o h e = subst (Opens f ts) (sym e) (stands_opens f ts x h)
+
 -- "73 nested too deep"
 pub minus_deep : (nesting spent : ℕ) (ts rest : List Token) → nesting ≡ 0 → ts ≡ sign Subtract ∷ rest → operand nesting spent ts ≡ refused NestedTooDeep
 unfolding operand

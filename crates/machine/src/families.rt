@@ -1,7 +1,7 @@
 // The instructions by families: those of one family take the same values and refuse the same. Each asks in the order of the numbers 4 to 7, once it is
 // known that its values are there; SWAP, which looks at none, asks 3 for itself.
 ghost use Rattle.std.specs.Prelude.{◌≡◌, ◌-◌, ◌≤◌, ℤ};
-ghost use Rattle.rules.specs.Words.{word, in_word};
+ghost use Rattle.rules.specs.Words.{word, in_word as within_word};
 ghost use Rattle.rules.specs.Cells.{Cells, cell_at};
 ghost use Rattle.rules.specs.Actions.{swap, sums, ints, divides, floats, compare_floats, one, to_float, to_int, same_value, agree, equal, is_nil, pop_sp, pop_fbr, jump_c, jump_ind, jsr_ind, write_ch};
 ghost use Rattle.machine.specs.Families.{on_pair, on_top, on_operand};
@@ -42,7 +42,7 @@ pub(crate) fn on_ints(v: u32, r: Registers, below: Cell, top: Cell) -> Plan
 // wrap, and an MA is refused.
 pub(crate) fn on_sums(bits: u32, in_word: bool, r: Registers, below: Cell, top: Cell) -> Plan
     requires { Small r × (2 ≤ r.sp) }
-    ensures { (z : ℤ) → bits ≡ word z → in_word ≡ in_word z → Means r result (on_pair (sums (λ b t. z)) r below top) }
+    ensures { (z : ℤ) → bits ≡ word z → in_word ≡ within_word z → Means r result (on_pair (sums (λ b t. z)) r below top) }
 {
     if below.tag == tags::INT {
         return on_ints(bits, r, below, top);

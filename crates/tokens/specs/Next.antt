@@ -1,5 +1,5 @@
 -- What stands next in a source: the tokens from a place on, and what each function of the scanner answers of them. Assumes nothing.
-use Rattle.std.specs.Prelude.{ℕ, ◌+◌, ◌-◌, ◌≤◌, ◌<◌, ◌≡◌, false, List, [], ◌∷◌, length, drop}
+use Rattle.std.specs.Prelude.{ℕ, ◌-◌, ◌≤◌, ◌<◌, ◌≡◌, false, List, [], ◌∷◌, length, drop}
 use Rattle.rules.specs.Lists.{part}
 use Rattle.rules.specs.Tokens.{Token, stops, tokens, comment}
 use Rattle.tokens.specs.declared.Next.{Next}

@@ -1,13 +1,9 @@
 -- `back::restore` meets its contract. The loop's invariant: what is left to restore, restored, gives what all restores give. Assumes nothing.
-use Prim.Native.Nat.{◌+◌, ◌-◌, ◌≤◌}
-use mathlib.Core.Path.{◌≡◌, sym, ◌∙◌}
-use native.Mathlib.Omega.{arith}
-use borrow.Author.Rules.{rules}
-use lib.ListN.{length, length-set, get_or, drop, set}
+use Prim.Native.Nat.{◌-◌, ◌≤◌}
+use mathlib.Core.Path.{◌≡◌}
+use lib.ListN.{length, drop}
 use Rattle.rules.specs.Places.{cell_tag, cell_bits}
 use Rattle.rules.specs.Back.{restored}
-use Rattle.rules.proofs.Places.{cell_address_is}
-use Rattle.back.proofs.Cells.{restored_next, restored_done}
 use Rattle.back.proofs.restore.Given as goal
 
 abbrev pub invariant-loop-cell : goal.invariant-loop-cell

@@ -1,13 +1,8 @@
 -- The loop's invariant: the first that fails is among those that are left. Assumes nothing.
-use Prim.Native.Nat.{ℕ, ◌-◌, ◌≤◌, ◌<◌}
-use mathlib.Core.Path.{◌≡◌, sym, ap, ◌∙◌}
-use mathlib.Core.Bool.{true, false}
-use native.Mathlib.Omega.{arith}
-use borrow.Author.Tests.{not-true, not-false}
+use Prim.Native.Nat.{◌-◌, ◌≤◌}
+use mathlib.Core.Path.{◌≡◌}
 use Rattle.rules.specs.Table.{program}
 use Rattle.rules.specs.DepthList.{rule, first_failing}
-use Rattle.rules.proofs.Failing.{failing_end, failing_here, failing_next}
-use Rattle.depths.proofs.Rules.{rule_read, known_at, table_longer}
 use Rattle.depths.proofs.first_failing.Given as goal
 
 abbrev pub invariant-loop-place : goal.invariant-loop-place

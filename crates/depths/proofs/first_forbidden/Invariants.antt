@@ -1,13 +1,8 @@
 -- The loop's invariant: the first that fails is among those that are left. Assumes nothing.
-use Prim.Native.Nat.{ℕ, ◌-◌, ◌≤◌, ◌<◌}
-use mathlib.Core.Path.{◌≡◌, sym, ap, ◌∙◌}
-use mathlib.Core.Bool.{true, false, not}
-use native.Mathlib.Omega.{arith}
-use borrow.Author.Rules.{rules}
-use Rattle.rules.specs.Instructions.{row_of}
+use Prim.Native.Nat.{◌-◌, ◌≤◌}
+use mathlib.Core.Path.{◌≡◌}
 use Rattle.rules.specs.Table.{program}
-use Rattle.rules.specs.DepthList.{forbidden, allowed_at, first_failing}
-use Rattle.rules.proofs.Failing.{failing_end, failing_here, failing_next}
+use Rattle.rules.specs.DepthList.{allowed_at, first_failing}
 use Rattle.depths.proofs.first_forbidden.Given as goal
 
 abbrev pub invariant-loop-place : goal.invariant-loop-place

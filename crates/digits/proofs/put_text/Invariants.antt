@@ -1,11 +1,8 @@
 -- `digits::put_text` meets its contract. The loop: as many bytes of the text as are passed are written. Assumes nothing.
 use Prim.Native.Nat.{◌≤◌, ◌-◌}
-use mathlib.Core.Path.{◌≡◌, refl, ◌∙◌, ap}
-use native.Mathlib.Omega.{arith}
-use lib.Seq.{sets, take_all}
+use mathlib.Core.Path.{◌≡◌}
+use lib.Seq.{sets}
 use lib.ListN.{length, take}
-use borrow.Author.Rules.{rules}
-use Rattle.digits.proofs.Laws.{put_more}
 use Rattle.digits.proofs.put_text.Given as goal
 
 abbrev pub invariant-loop-i : goal.invariant-loop-i

@@ -1,10 +1,6 @@
 -- `forget::move_down` meets its contract. The loop's invariant: the first i places stand as they are to, and those behind are as they were. Assumes nothing.
 use Prim.Native.Nat.{◌-◌, ◌≤◌}
-use mathlib.Core.Path.{◌≡◌, subst}
-use native.Mathlib.Omega.{arith}
-use borrow.Author.Rules.{rules}
-use Rattle.rules.proofs.Forgetting.{MovedTo, moved_none, moved_one}
-use Rattle.forget.proofs.Cases.{move_done}
+use Rattle.rules.proofs.Forgetting.{MovedTo}
 use Rattle.forget.proofs.move_down.Given as goal
 
 abbrev pub invariant-loop-i : goal.invariant-loop-i

@@ -1,8 +1,7 @@
 -- `clear_bytes` meets its contract. The loop's invariant: the bytes passed are zero. Assumes nothing.
 use Prim.Native.Nat.{◌-◌}
-use borrow.Author.Rules.{rules}
 use lib.ListN.{length}
-use Rattle.rules.proofs.Stored.{Cleared, cleared_none, cleared_more, cleared_all}
+use Rattle.rules.proofs.Stored.{Cleared}
 use Rattle.lent.proofs.clear_bytes.Given as goal
 
 abbrev pub invariant-loop-i : goal.invariant-loop-i

@@ -1,11 +1,8 @@
 -- `operands::all_digits` meets its contract. Invariant: all bytes are digits exactly when those from `i` on are. Assumes nothing.
-use Rattle.operands.proofs.Laws as law
 use Rattle.rules.specs.Operands.{all_digits}
 use lib.ListN.{length, drop}
 use Prim.Native.Nat.{◌≤◌, ◌-◌}
-use mathlib.Core.Path.{◌≡◌, refl, sym, ◌∙◌}
-use native.Mathlib.Omega.{arith}
-use borrow.Author.Rules.{rules}
+use mathlib.Core.Path.{◌≡◌}
 use Rattle.operands.proofs.all_digits.Given as goal
 
 abbrev pub invariant-loop-i : goal.invariant-loop-i

@@ -1,12 +1,8 @@
 -- `operands::numeral_of` meets its contract. Invariant: all digits make what those from `i` on make after `n`, and `n` is below 17 to the digits read. Assumes nothing.
-use native.Mathlib.Nat.{mul-le-mul_left}
-use Rattle.operands.proofs.Laws as law
 use Rattle.rules.specs.Operands.{numeral}
 use lib.ListN.{length, drop}
-use Prim.Native.Nat.{ℕ, ◌≤◌, ◌<◌, ◌-◌, ◌+◌, ◌*◌, ◌^◌}
-use mathlib.Core.Path.{◌≡◌, refl, sym, ◌∙◌, ap}
-use native.Mathlib.Omega.{arith}
-use borrow.Author.Rules.{rules}
+use Prim.Native.Nat.{◌≤◌, ◌<◌, ◌-◌, ◌^◌}
+use mathlib.Core.Path.{◌≡◌}
 use Rattle.operands.proofs.numeral_of.Given as goal
 
 abbrev pub invariant-loop-i : goal.invariant-loop-i

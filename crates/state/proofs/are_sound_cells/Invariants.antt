@@ -1,13 +1,8 @@
 -- `state::are_sound_cells` meets its contract. The loop's invariant: all cells are sound exactly where those left are. Assumes nothing.
 use Prim.Native.Nat.{◌-◌, ◌≤◌}
-use mathlib.Core.Path.{◌≡◌, sym, ◌∙◌}
-use mathlib.Core.Bool.{true, false}
-use native.Mathlib.Omega.{arith}
-use borrow.Author.Rules.{rules}
-use borrow.Author.Tests.{not-true, not-false}
+use mathlib.Core.Path.{◌≡◌}
 use lib.ListN.{length, drop}
 use Rattle.rules.specs.State.{sound_cells}
-use Rattle.state.proofs.Parts.{cells_next, cells_done}
 use Rattle.state.proofs.are_sound_cells.Given as goal
 
 abbrev pub invariant-loop-i : goal.invariant-loop-i

@@ -1,10 +1,7 @@
 -- `state::clear_cells` meets its contract. The loop's invariant: the bits and the tags passed are zero. Assumes nothing.
 use Prim.Native.Nat.{◌-◌}
-use mathlib.Core.Path.{◌≡◌}
-use native.Mathlib.Omega.{arith}
-use borrow.Author.Rules.{rules}
 use lib.ListN.{length}
-use Rattle.rules.proofs.Stored.{Cleared, cleared_none, cleared_more, cleared_all}
+use Rattle.rules.proofs.Stored.{Cleared}
 use Rattle.state.proofs.clear_cells.Given as goal
 
 abbrev pub invariant-loop-cell : goal.invariant-loop-cell

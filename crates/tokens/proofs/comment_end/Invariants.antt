@@ -1,11 +1,8 @@
 -- `tokens::comment_end` meets its contract. Invariant: what is open at `at` leaves the same tokens as at `i`. Assumes nothing.
-use Rattle.tokens.proofs.Scan.{from_end, inside_end, inside_lf, inside_more}
 use Rattle.tokens.specs.Next.{inside}
 use lib.ListN.{length}
 use Prim.Native.Nat.{◌≤◌, ◌-◌}
-use mathlib.Core.Path.{◌≡◌, refl, sym, ◌∙◌}
-use native.Mathlib.Omega.{arith}
-use borrow.Author.Rules.{rules}
+use mathlib.Core.Path.{◌≡◌}
 use Rattle.tokens.proofs.comment_end.Given as goal
 
 abbrev pub invariant-loop-i : goal.invariant-loop-i

@@ -1,11 +1,8 @@
 -- `tokens::skip` meets its contract. Invariant: the tokens from `at` are those from `i`. Assumes nothing.
-use Rattle.tokens.proofs.Scan.{stops_other, from_blank, from_comment}
 use Rattle.tokens.specs.Next.{from}
 use lib.ListN.{length}
 use Prim.Native.Nat.{◌≤◌, ◌-◌}
-use mathlib.Core.Path.{◌≡◌, refl, sym, ◌∙◌}
-use native.Mathlib.Omega.{arith}
-use borrow.Author.Rules.{rules}
+use mathlib.Core.Path.{◌≡◌}
 use Rattle.tokens.proofs.skip.Given as goal
 
 abbrev pub invariant-loop-i : goal.invariant-loop-i

@@ -1,13 +1,10 @@
 -- `tokens::token_end` meets its contract. Invariant: wherever the token at `i` ends, the one at `at` ends. Assumes nothing.
-use Rattle.tokens.proofs.Scan.{stops_in, last_colon, last_other, ended_last, ended_more}
 use Rattle.rules.specs.Tokens.{stops}
 use Rattle.tokens.specs.Next.{Ended}
-use lib.ListN.{length, get_or, drop}
-use Prim.Native.Nat.{ℕ, ◌≤◌, ◌<◌, ◌-◌, ◌+◌}
+use lib.ListN.{length, drop}
+use Prim.Native.Nat.{ℕ, ◌≤◌, ◌<◌, ◌-◌}
 use mathlib.Core.Bool.{false}
-use mathlib.Core.Path.{◌≡◌, sym, ◌∙◌}
-use native.Mathlib.Omega.{arith}
-use borrow.Author.Rules.{rules}
+use mathlib.Core.Path.{◌≡◌}
 use Rattle.tokens.proofs.token_end.Given as goal
 
 abbrev pub invariant-loop-i : goal.invariant-loop-i

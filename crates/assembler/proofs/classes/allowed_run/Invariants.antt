@@ -1,11 +1,8 @@
 -- `assembler::classes::allowed_run` meets its contract. Invariant: the run is `i` and the run from `i` on. Assumes nothing.
 use Prim.Native.Nat.{◌+◌, ◌-◌, ◌≤◌}
-use mathlib.Core.Path.{◌≡◌, sym, ◌∙◌}
-use native.Mathlib.Omega.{arith}
-use borrow.Author.Rules.{rules}
+use mathlib.Core.Path.{◌≡◌}
 use lib.ListN.{length, drop}
 use Rattle.rules.specs.Assemble.{allowed_run}
-use Rattle.assembler.proofs.Bytes as law
 use Rattle.assembler.proofs.classes.allowed_run.Given as goal
 
 abbrev pub invariant-loop-i : goal.invariant-loop-i

@@ -1,12 +1,8 @@
 -- `assembler::classes::is_word` meets its contract. Invariant: the bytes from 1 on are those of a word exactly when those from `i` on are. Assumes nothing.
 use Prim.Native.Nat.{◌-◌, ◌≤◌}
-use mathlib.Core.Path.{◌≡◌, refl, sym, ◌∙◌}
-use native.Mathlib.Omega.{arith}
-use borrow.Author.Rules.{rules}
+use mathlib.Core.Path.{◌≡◌}
 use lib.ListN.{length, drop}
 use Rattle.rules.specs.Bytes.{all_word}
-use Rattle.rules.proofs.Judging.{no_word}
-use Rattle.assembler.proofs.Bytes as law
 use Rattle.assembler.proofs.classes.is_word.Given as goal
 
 abbrev pub invariant-loop-i : goal.invariant-loop-i

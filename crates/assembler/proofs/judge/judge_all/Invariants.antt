@@ -1,15 +1,11 @@
 -- `assembler::judge::judge_all` meets its contract. Invariant: the source gives what the judgement of the tokens from `at` on gives, from the state held. Assumes nothing.
 use Prim.Native.Nat.{◌-◌, ◌≤◌}
-use mathlib.Core.Path.{◌≡◌, ◌∙◌}
-use native.Mathlib.Omega.{arith}
-use borrow.Author.Rules.{rules}
+use mathlib.Core.Path.{◌≡◌}
 use lib.ListN.{length}
 use Rattle.rules.specs.Sizes.{max_program, max_labels}
-use Rattle.rules.specs.Tokens.{Token}
 use Rattle.rules.specs.Assemble.{judge, translated}
-use Rattle.tokens.specs.Next.{from, between}
+use Rattle.tokens.specs.Next.{from}
 use Rattle.assembler.specs.Held.{state_of, Well}
-use Rattle.assembler.proofs.Whole as whole
 use Rattle.assembler.proofs.judge.judge_all.Given as goal
 
 abbrev pub invariant-loop-start : goal.invariant-loop-start

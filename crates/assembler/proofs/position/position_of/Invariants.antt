@@ -1,15 +1,8 @@
 -- `assembler::position::position_of` meets its contract. Invariant: line and start are those of the bytes before `i`. Assumes nothing.
-use Prim.Native.Nat.{ℕ, ◌+◌, ◌-◌, ◌≤◌, ◌<◌}
-use mathlib.Core.Path.{◌≡◌, refl, ap, ◌∙◌}
-use mathlib.Core.List.{List}
-use mathlib.Core.Logic.{⊎_elim}
-use native.Mathlib.Omega.{arith}
-use borrow.Author.Rules.{rules}
-use borrow.Author.Tests.{eq-eqb, ne_eqb, ltb-true, ltb-false}
-use lib.ListN.{length, take, get_or}
-use Rattle.rules.specs.Bytes.{LF}
-use Rattle.rules.specs.Positions.{line_feeds, since_lf, position_of}
-use Rattle.rules.proofs.Positions as law
+use Prim.Native.Nat.{◌+◌, ◌-◌, ◌≤◌}
+use mathlib.Core.Path.{◌≡◌}
+use lib.ListN.{length, take}
+use Rattle.rules.specs.Positions.{line_feeds, since_lf}
 use Rattle.assembler.proofs.position.position_of.Given as goal
 
 abbrev pub invariant-loop-i : goal.invariant-loop-i

@@ -1,14 +1,9 @@
 -- `assembler::search::find_label` meets its contract. Invariant: the label is found among all exactly as among those from `k` on. Assumes nothing.
-use Prim.Native.Nat.{ℕ, ◌-◌, ◌≤◌}
-use mathlib.Core.Path.{◌≡◌, sym, ◌∙◌, ap}
-use mathlib.Core.List.{List}
-use native.Mathlib.Omega.{arith}
-use borrow.Author.Rules.{rules}
-use Rattle.rules.specs.Lists.{same}
+use Prim.Native.Nat.{◌-◌, ◌≤◌}
+use mathlib.Core.Path.{◌≡◌}
 use Rattle.rules.specs.Assemble.{lookup}
 use Rattle.assembler.specs.Held.{labels_of}
 use Rattle.assembler.proofs.Labels.{lookup_of}
-use Rattle.assembler.proofs.Labels as lab
 use Rattle.assembler.proofs.search.find_label.Given as goal
 
 abbrev pub invariant-loop-k : goal.invariant-loop-k

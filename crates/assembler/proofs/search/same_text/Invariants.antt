@@ -1,11 +1,8 @@
 -- `assembler::search::same_text` meets its contract. Invariant: the texts are the same exactly when they are from `i` on. Assumes nothing.
 use Prim.Native.Nat.{◌-◌, ◌≤◌}
-use mathlib.Core.Path.{◌≡◌, refl, sym, ◌∙◌}
-use native.Mathlib.Omega.{arith}
-use borrow.Author.Rules.{rules}
+use mathlib.Core.Path.{◌≡◌}
 use lib.ListN.{length, drop}
 use Rattle.rules.specs.Lists.{same}
-use Rattle.rules.proofs.Search.{same_length, same_no, same_more, same_end}
 use Rattle.assembler.proofs.search.same_text.Given as goal
 
 abbrev pub invariant-loop-i : goal.invariant-loop-i

@@ -1,15 +1,12 @@
 -- `assembler::targets::settle_all` meets its contract. Invariant: the places before `i` are settled, and in front of the items from `i` on they give what all items give. Assumes nothing.
 use Prim.Native.Nat.{◌-◌, ◌≤◌}
-use mathlib.Core.Path.{◌≡◌, refl, ap}
-use native.Mathlib.Omega.{arith}
-use borrow.Author.Rules.{rules}
-use lib.ListN.{length, take, drop, length-set}
+use mathlib.Core.Path.{◌≡◌}
+use lib.ListN.{length, take, drop}
 use Rattle.rules.specs.Sizes.{max_program}
 use Rattle.rules.specs.Assemble.{settle}
 use Rattle.assembler.specs.Held.{items_of, labels_of}
 use Rattle.rules.proofs.Judging.{join_all}
 use Rattle.assembler.proofs.Settle.{items_from}
-use Rattle.assembler.proofs.Settle as settled
 use Rattle.assembler.proofs.targets.settle_all.Given as goal
 
 abbrev pub invariant-loop-i : goal.invariant-loop-i

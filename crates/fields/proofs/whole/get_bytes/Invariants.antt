@@ -1,12 +1,8 @@
 -- The loop's invariant: the number so far is that of the bytes read so far. Assumes nothing.
-use Prim.Native.Nat.{ℕ, ◌+◌, ◌-◌, ◌*◌, ◌≤◌}
-use mathlib.Core.Path.{◌≡◌, sym, ap, ap₂, ◌∙◌}
-use mathlib.Core.List.{List}
-use native.Mathlib.Omega.{arith}
+use Prim.Native.Nat.{◌-◌, ◌*◌, ◌≤◌}
+use mathlib.Core.Path.{◌≡◌}
 use Rattle.rules.specs.Lists.{part}
 use Rattle.rules.specs.Fields.{value, bits_of}
-use Rattle.rules.proofs.Fields.{bits_of_length}
-use Rattle.fields.proofs.Pieces.{byte_number, part_more, more_fits}
 use Rattle.fields.proofs.whole.get_bytes.Given as goal
 
 abbrev pub invariant-loop-i : goal.invariant-loop-i

@@ -1,16 +1,9 @@
 -- The loop's invariant: from byte i on, the low bits of v are written. Assumes nothing.
-use Prim.Native.Nat.{ℕ, ◌+◌, ◌-◌, ◌*◌, ◌/◌, ◌%◌, ◌^◌, ◌≤◌}
-use mathlib.Core.Path.{◌≡◌, refl, sym, ap, ◌∙◌}
-use mathlib.Core.List.{List}
-use native.Mathlib.Nat.{div-one}
-use native.Mathlib.Omega.{arith}
-use lib.ListN.{length, set, length-set}
-use lib.Pow.{shr-shr}
+use Prim.Native.Nat.{◌-◌, ◌*◌, ◌/◌, ◌^◌, ◌≤◌}
+use mathlib.Core.Path.{◌≡◌}
+use lib.ListN.{length}
 use Rattle.rules.specs.Lists.{splice}
 use Rattle.rules.specs.Fields.{field, bits_of}
-use Rattle.rules.proofs.Fields.{bits_of_length}
-use Rattle.rules.proofs.Splice.{splice_none}
-use Rattle.fields.proofs.Pieces.{put_more}
 use Rattle.fields.proofs.whole.put_bytes.Given as goal
 
 abbrev pub invariant-loop-i : goal.invariant-loop-i

@@ -1,12 +1,8 @@
 -- `formula::scan::skip_spaces` meets its contract. Invariant: the tokens from `at` are those from `i`. Assumes nothing.
 use Prim.Native.Nat.{◌-◌}
-use mathlib.Core.Path.{◌≡◌, refl, ◌∙◌}
-use native.Mathlib.Omega.{arith}
-use borrow.Author.Rules.{rules}
-use borrow.Author.Tests.{ne_eqb}
+use mathlib.Core.Path.{◌≡◌}
 use lib.ListN.{length}
 use Rattle.formula.specs.Scans.{tokens_from}
-use Rattle.formula.proofs.Scanned.{tokens_blank}
 use Rattle.formula.proofs.scan.skip_spaces.Given as goal
 
 abbrev pub invariant-loop-i : goal.invariant-loop-i

@@ -1,12 +1,9 @@
 -- `put_name` meets its contract. The loop: as many bytes of the name as are passed are written. Assumes nothing.
 use Prim.Native.Nat.{◌≤◌, ◌-◌}
-use mathlib.Core.Path.{◌≡◌, refl, ◌∙◌, ap}
-use native.Mathlib.Omega.{arith}
-use lib.Seq.{sets, take_all}
+use mathlib.Core.Path.{◌≡◌}
+use lib.Seq.{sets}
 use lib.ListN.{length, take}
-use borrow.Author.Rules.{rules}
 use Rattle.rules.specs.Instructions.{name_of}
-use Rattle.digits.proofs.Laws.{put_more}
 use Rattle.lister.proofs.line.put_name.Given as goal
 
 abbrev pub invariant-loop-i : goal.invariant-loop-i

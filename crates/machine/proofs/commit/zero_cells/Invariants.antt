@@ -1,10 +1,7 @@
 -- `machine::commit::zero_cells` meets its contract. The loop's invariant: the zeros left to write give what all of them give. Assumes nothing.
-use Prim.Native.Nat.{ℕ, ◌-◌, ◌≤◌, ◌<◌}
-use mathlib.Core.Path.{sym}
-use native.Mathlib.Omega.{arith}
-use borrow.Author.Rules.{rules}
-use lib.ListN.{length, replicate, length-replicate, get_or-replicate}
-use Rattle.rules.proofs.Stored.{Stored, stored_none, stored_more, stored_all}
+use Prim.Native.Nat.{◌-◌, ◌≤◌}
+use lib.ListN.{replicate}
+use Rattle.rules.proofs.Stored.{Stored}
 use Rattle.machine.proofs.commit.zero_cells.Given as goal
 
 abbrev pub invariant-loop-i : goal.invariant-loop-i

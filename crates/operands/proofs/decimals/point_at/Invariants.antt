@@ -2,11 +2,8 @@
 -- Assumes nothing.
 use Prim.Native.Nat.{◌+◌, ◌-◌, ◌≤◌}
 use mathlib.Core.Path.{◌≡◌}
-use native.Mathlib.Omega.{arith}
-use borrow.Author.Rules.{rules}
 use lib.ListN.{length, drop}
 use Rattle.rules.specs.Operands.{before_point}
-use Rattle.operands.proofs.Points as law
 use Rattle.operands.proofs.decimals.point_at.Given as goal
 
 abbrev pub invariant-loop-i : goal.invariant-loop-i

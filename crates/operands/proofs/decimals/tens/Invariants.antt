@@ -1,10 +1,6 @@
 -- `operands::decimals::tens` meets its contract. Invariant: `n` is 10 to the power of `i`. Assumes nothing.
 use Prim.Native.Nat.{◌-◌, ◌≤◌, ◌^◌}
-use mathlib.Core.Path.{◌≡◌, ap, ◌∙◌}
-use native.Mathlib.Nat.{pow-suc, pow-le-pow_right}
-use native.Mathlib.Numerals.{add-one}
-use native.Mathlib.Omega.{arith}
-use borrow.Author.Rules.{rules}
+use mathlib.Core.Path.{◌≡◌}
 use Rattle.operands.proofs.decimals.tens.Given as goal
 
 abbrev pub invariant-loop-i : goal.invariant-loop-i

@@ -1,14 +1,10 @@
 -- The loop's invariant: the names from `code` on decide. Assumes nothing.
-use Prim.Native.Nat.{ℕ, ◌≤◌, ◌<◌, ◌-◌}
-use mathlib.Core.Path.{◌≡◌, refl, sym, ap, ◌∙◌}
-use native.Mathlib.Omega.{arith}
+use Prim.Native.Nat.{◌≤◌, ◌-◌}
+use mathlib.Core.Path.{◌≡◌}
 use lib.ListN.{drop}
-use borrow.Author.Rules.{rules}
 use Rattle.rules.specs.Instructions.{codes, names}
 use Rattle.rules.specs.Assemble.{place_in, code_named}
-use Rattle.rules.proofs.Search.{named_yes, named_no, named_end}
 use Rattle.program.specs.NameWords.{text_word}
-use Rattle.program.proofs.NameTable.{word_yes, word_no}
 use Rattle.program.proofs.names.code_named.Given as goal
 
 abbrev pub invariant-loop-code : goal.invariant-loop-code

@@ -1,13 +1,9 @@
 -- The loop's invariant: `rest` is the word of the letters from `n` on. Assumes nothing.
-use Prim.Native.Nat.{◌≤◌, ◌<◌, ◌-◌}
-use mathlib.Core.Path.{◌≡◌, sym, ◌∙◌}
-use native.Mathlib.Omega.{arith}
+use Prim.Native.Nat.{◌≤◌, ◌-◌}
+use mathlib.Core.Path.{◌≡◌}
 use lib.ListN.{length, drop}
-use borrow.Author.Rules.{rules}
 use Rattle.rules.specs.Instructions.{name_of}
 use Rattle.program.specs.NameWords.{word_of}
-use Rattle.program.proofs.NameWords.{word_done, word_more, word_rest}
-use Rattle.program.proofs.NameTable.{name_capital, name_short}
 use Rattle.program.proofs.names.name_length.Given as goal
 
 abbrev pub invariant-loop-rest : goal.invariant-loop-rest

@@ -1,12 +1,9 @@
 -- The loop's invariant: what is left of the table decides. Assumes nothing.
 use Prim.Native.Nat.{◌-◌}
-use mathlib.Core.Path.{◌≡◌, refl, sym, ◌∙◌}
-use native.Mathlib.Omega.{arith}
-use borrow.Author.Tests.{eq-eqb, ne_eqb}
+use mathlib.Core.Path.{◌≡◌}
 use lib.ListN.{length, drop}
 use Rattle.rules.specs.Lists.{all}
 use Rattle.rules.specs.Table.{is_zero}
-use Rattle.rules.proofs.Tests.{all_next, all_done}
 use Rattle.program.proofs.table.unused_are_zero.Given as goal
 
 abbrev pub invariant-loop-i : goal.invariant-loop-i

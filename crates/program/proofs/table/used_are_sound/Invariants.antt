@@ -1,14 +1,9 @@
 -- The loop's invariant: what is left of the used places decides. Assumes nothing.
-use Prim.Native.Nat.{◌≤◌, ◌<◌, ◌-◌}
-use mathlib.Core.Path.{◌≡◌, refl, sym, ◌∙◌}
-use native.Mathlib.Omega.{arith}
-use borrow.Author.Rules.{rules}
-use borrow.Author.Tests.{not-true, not-false}
-use lib.ListN.{length, take, drop}
-use lib.Seq.{get_or-take, length-take-le}
+use Prim.Native.Nat.{◌≤◌, ◌-◌}
+use mathlib.Core.Path.{◌≡◌}
+use lib.ListN.{take, drop}
 use Rattle.rules.specs.Lists.{all}
 use Rattle.rules.specs.Table.{sound_place}
-use Rattle.rules.proofs.Tests.{all_next, all_done}
 use Rattle.program.proofs.table.used_are_sound.Given as goal
 
 abbrev pub invariant-loop-i : goal.invariant-loop-i

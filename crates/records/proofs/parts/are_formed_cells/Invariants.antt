@@ -1,15 +1,9 @@
 -- `records::parts::are_formed_cells` meets its contract. The loop's invariant: all cell places are well formed exactly where those left are, from the
 -- address after the last one on. Assumes nothing.
-use Prim.Native.Nat.{ℕ, ◌+◌, ◌-◌, ◌≤◌}
-use mathlib.Core.Path.{◌≡◌, sym, ap, ◌∙◌}
-use mathlib.Core.Bool.{true, false}
-use native.Mathlib.Omega.{arith}
-use borrow.Author.Rules.{rules}
-use borrow.Author.Tests.{not-true, not-false}
-use lib.ListN.{length, get_or, drop}
+use Prim.Native.Nat.{◌-◌, ◌≤◌}
+use mathlib.Core.Path.{◌≡◌}
+use lib.ListN.{length, drop}
 use Rattle.rules.specs.Records.{formed_cells}
-use Rattle.rules.proofs.Places.{cell_address_is}
-use Rattle.records.proofs.Formed.{formed_next, formed_done}
 use Rattle.records.proofs.parts.are_formed_cells.Given as goal
 
 abbrev pub invariant-loop-i : goal.invariant-loop-i

@@ -1,15 +1,10 @@
 -- The loop's invariant: all cells are sound exactly where those left are. Assumes nothing.
 use Prim.Native.Nat.{◌-◌, ◌≤◌}
-use mathlib.Core.Path.{◌≡◌, sym, ◌∙◌}
-use mathlib.Core.Bool.{true, false}
-use native.Mathlib.Omega.{arith}
-use borrow.Author.Rules.{rules}
-use borrow.Author.Tests.{not-true, not-false}
+use mathlib.Core.Path.{◌≡◌}
 use lib.ListN.{drop}
 use Rattle.rules.specs.Fields.{bits_of}
 use Rattle.rules.specs.State.{sound_cells}
 use Rattle.rules.specs.SavedState.{cells_in}
-use Rattle.saved.proofs.Columns.{judged_next, judged_done}
 use Rattle.saved.proofs.reading.are_sound_cells_in.Given as goal
 
 abbrev pub invariant-loop-i : goal.invariant-loop-i

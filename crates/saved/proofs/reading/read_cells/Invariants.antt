@@ -1,15 +1,9 @@
 -- The loop's invariant: the first i cells are those of the image. Assumes nothing.
-use Prim.Native.Nat.{ℕ, ◌-◌, ◌≤◌}
-use mathlib.Core.Path.{◌≡◌, refl, sym, ap, ◌∙◌}
-use mathlib.Core.List.{List}
-use native.Mathlib.Omega.{arith}
-use borrow.Author.Rules.{rules}
-use lib.ListN.{length, take, drop, length-set}
-use lib.Seq.{take_all}
+use Prim.Native.Nat.{◌-◌, ◌≤◌}
+use mathlib.Core.Path.{◌≡◌}
+use lib.ListN.{length, take}
 use Rattle.rules.specs.Fields.{bits_of}
-use Rattle.rules.specs.SavedState.{head_width, cells_in}
-use Rattle.rules.specs.declared.Cell.{Cell}
-use Rattle.saved.proofs.Columns.{column_length, cell_at, filled_more}
+use Rattle.rules.specs.SavedState.{cells_in}
 use Rattle.saved.proofs.reading.read_cells.Given as goal
 
 abbrev pub invariant-loop-i : goal.invariant-loop-i

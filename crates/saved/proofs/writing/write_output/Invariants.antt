@@ -1,17 +1,10 @@
 -- The loop's invariant: the first i bytes stand from bit `at` on. Assumes nothing.
-use Prim.Native.Nat.{ℕ, ◌-◌, ◌*◌, ◌≤◌}
-use mathlib.Core.Path.{◌≡◌, refl, sym, ap, ◌∙◌}
-use mathlib.Core.List.{List}
-use native.Mathlib.Omega.{arith}
-use borrow.Author.Rules.{rules}
-use lib.Dec.{lit≤}
-use lib.ListN.{length, get_or, take}
+use Prim.Native.Nat.{◌-◌, ◌≤◌}
+use mathlib.Core.Path.{◌≡◌}
+use lib.ListN.{length, take}
 use Rattle.rules.specs.Lists.{splice}
 use Rattle.rules.specs.Sizes.{state_size}
-use Rattle.rules.specs.Fields.{field, bits_of}
-use Rattle.rules.proofs.Fields.{bits_of_length, bits_of_front}
-use Rattle.rules.proofs.Splice.{splice_none}
-use Rattle.saved.proofs.Columns.{written_behind, bytes_more}
+use Rattle.rules.specs.Fields.{bits_of}
 use Rattle.saved.proofs.writing.write_output.Given as goal
 
 abbrev pub invariant-loop-i : goal.invariant-loop-i

@@ -1,0 +1,24 @@
+-- `machine::addresses::on_store_off` meets its contract. Assumes nothing.
+use Prim.Native.Nat.{◌-◌}
+use borrow.Author.Tests.{lt-leb, le-leb}
+use Rattle.machine.specs.Plan.{planned}
+use Rattle.machine.proofs.Reach.{frame_out, frame_below}
+use Rattle.machine.proofs.addresses.on_store_off.Goals as goal
+
+pub returns-then-r-lt1 : goal.returns-then-r-lt1
+unfolding planned
+returns-then-r-lt1 c m = rw (lt-leb _ _ c.if-r-lt1.true)
+
+pub returns-else-a-r : goal.returns-else-a-r
+unfolding planned
+returns-else-a-r c m =
+    let a = c.args in
+    let leads = rw c.in-To.is at c.moved_by-to.ensures in
+    rw (le-leb _ _ c.if-r-lt1.false, frame_out a.r a.offset (a.r.sp - 1) c.in-To.a leads c.if-a-r.false)
+
+pub returns-in-Below : goal.returns-in-Below
+unfolding planned
+returns-in-Below c m =
+    let a = c.args in
+    let leads = rw c.in-Below.is at c.moved_by-to.ensures in
+    rw (le-leb _ _ c.if-r-lt1.false, frame_below a.r a.offset (a.r.sp - 1) leads)

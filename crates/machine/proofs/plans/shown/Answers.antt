@@ -1,0 +1,13 @@
+-- `machine::plans::shown` meets its contract. Assumes nothing.
+use Prim.Native.Nat.{◌-◌}
+use mathlib.Core.Path.{refl}
+use native.Mathlib.Omega.{arith}
+use borrow.Author.Tests.{lt-ltb}
+use Rattle.machine.specs.Plan.{planned}
+use Rattle.machine.proofs.plans.shown.Goals as goal
+
+pub returns : goal.returns
+unfolding planned
+returns c m =
+    let r = c.args.r in
+    rw (lt-ltb (r.sp - 1) r.n (omega (arith, c.requires))) refl
