@@ -1,14 +1,9 @@
 -- `put_bytes` meets its contract. The loop: the bytes passed are shown, three bytes each. Assumes nothing.
 use Prim.Native.Nat.{◌≤◌, ◌-◌, ◌*◌}
-use mathlib.Core.Path.{◌≡◌, refl, ◌∙◌}
-use native.Mathlib.Omega.{arith}
-use lib.ListN.{length, get_or, take}
-use lib.Seq.{take_all}
-use borrow.Author.Rules.{rules}
-use Rattle.rules.proofs.Texts.{length_hex}
+use mathlib.Core.Path.{◌≡◌}
+use lib.ListN.{length, take}
 use Rattle.digits.specs.Put.{Put}
-use Rattle.digits.proofs.Laws.{put_append, put_last}
-use Rattle.console.proofs.OutLine.{shown, shown_none, shown_next, bytes_shown}
+use Rattle.console.proofs.OutLine.{shown}
 use Rattle.console.proofs.panel.put_bytes.Given as goal
 
 abbrev pub invariant-loop-i : goal.invariant-loop-i

@@ -1,15 +1,10 @@
 -- `put_cells` meets its contract. The loop: the lines of the cells passed are written, at most 29 bytes each. Assumes nothing.
 use Prim.Native.Nat.{◌≤◌, ◌-◌, ◌*◌}
-use mathlib.Core.Path.{◌≡◌, refl, ◌∙◌}
-use native.Mathlib.Omega.{arith}
-use lib.ListN.{length, get_or}
-use borrow.Author.Rules.{rules}
+use mathlib.Core.Path.{◌≡◌}
+use lib.ListN.{length}
 use Rattle.rules.specs.Cells.{cells}
 use Rattle.rules.specs.Console.{cell_lines}
 use Rattle.digits.specs.Put.{Put}
-use Rattle.digits.proofs.Laws.{put_append}
-use Rattle.console.proofs.Writing as law
-use Rattle.console.proofs.Reported.{cells_none, cells_next}
 use Rattle.console.proofs.report.put_cells.Given as goal
 
 abbrev pub invariant-loop-i : goal.invariant-loop-i
