@@ -1,0 +1,22 @@
+-- `sam_pack` meets its contract: what the packer answers and leaves, and the length told. Assumes nothing.
+use Prim.Native.Nat.{ℕ}
+use mathlib.Core.Path.{ap, ◌∙◌}
+use mathlib.Core.List.{[], ◌∷◌}
+use Rattle.rules.specs.Sizes.{image_size}
+use Rattle.rules.specs.Numbers.{number_of_packed, length_of_packed}
+use Rattle.rules.specs.declared.Packed.{Packed}
+use Rattle.sam_c.proofs.Called.{filled_by, untold_by}
+use Rattle.sam_c.proofs.pack.sam_pack.Goals as goal
+
+pub returns-then-told-ne1 : goal.returns-then-told-ne1
+returns-then-told-ne1 c =
+    let a = c.args in
+    untold_by 1 a.told.now c.if-told-ne1.true image_size a.image.now _ c.blank_bytes.ensures
+
+pub returns : goal.returns
+returns c =
+    filled_by number_of_packed (λ (a : Packed). length_of_packed a ∷ []) 1 c.args.told.now c.if-told-ne1.false _
+    c.pack-answer.ensures.answer
+    c.pack-answer.ensures.output
+    (c.tell.ensures ∙ ap (λ (x : ℕ). x ∷ []) c.packed_length.ensures)
+    c.packed_number.ensures
