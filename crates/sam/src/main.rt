@@ -2,13 +2,19 @@
 // read, so that one that is too long is told apart.
 #![tactic(auto)]
 
-use libc::{STDIN_FILENO, STDOUT_FILENO};
 use rules::sizes;
+use std::io;
+use std::io::{Read, Write};
 
-fn main() {
+// Prints what the machine makes of the source that is read.
+fn answer<R: Read, W: Write>(input: &mut R, output: &mut W) -> io::Result<()> {
     let mut source = [0u8; sizes::MAX_SOURCE + 1];
-    let n = io::read_full(STDIN_FILENO, &mut source);
+    let n = reader::read_full(input, &mut source)?;
     let mut out = [0u8; console::OUTPUT_SIZE];
     let told = console::print(&source[..n], &mut out);
-    io::write_all(STDOUT_FILENO, &out[..told]);
+    output.write_all(&out[..told])
+}
+
+fn main(rt: HostRuntime) -> io::Result<()> {
+    answer(&mut rt.stdin(), &mut rt.stdout())
 }
