@@ -15,14 +15,12 @@ const INPUT_SIZE: usize = MAX_SOURCE + 1 + MAX_SOURCE + 1;
 
 // The place of the first LF, or the input's length where there is none.
 fn first_line_end(input: &[u8]) -> usize {
-    let mut i = 0;
-    while i < input.len() {
+    for i in 0..input.len() {
         if input[i] == b'\n' {
             return i;
         }
-        i += 1;
     }
-    i
+    input.len()
 }
 
 // Prints what the formula makes of the numbers that the source pushes. Its program runs on the cells where they lie, and leaves its number above them.
