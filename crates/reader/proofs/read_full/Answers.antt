@@ -23,9 +23,8 @@ filled done n buf part within fits =
     ∙ ap (λ k. take k all) sum
 
 pub loop-done-preserved : goal.loop-done-preserved
-loop-done-preserved g c =
-    (
-      search rules,
-      search rules,
-      subst (Consumes _ _) (filled c.loop-done.done c.in_ok-n.n c.loop-done.buf c.read.new.buf c.loop-done.invariant.1 c.in_ok-n.ensures.bound.0) (Consumes-trans _ _ _ _ _ c.loop-done.invariant.2 c.in_ok-n.ensures.bytes.0),
-    )
+loop-done-preserved g c = (
+  search rules,
+  search rules,
+  subst (Consumes _ _) (filled c.loop-done.done c.in_ok-n.n c.loop-done.buf c.read.new.buf c.loop-done.invariant.1 c.in_ok-n.ensures.bound.0) (Consumes-trans _ _ _ _ _ c.loop-done.invariant.2 c.in_ok-n.ensures.bytes.0),
+)
