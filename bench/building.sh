@@ -1,4 +1,4 @@
-# Sourced by ./sam and ./support: what the kit proves and builds, with progress on standard error. Both set
+# Sourced by ./sam, ./support and .ci/run: what the kit proves and builds, with progress on standard error. Each sets
 #
 #   root       the folder of the repository
 #   called_as  what stands before each line that is told, as ./sam
@@ -16,9 +16,9 @@ check_readable() {
     [ -r "$1" ] || fail 2 "the file '$1' cannot be read"
 }
 
-# Whether the file BUILT is there and no older than any file below crates/.
+# Whether the file BUILT is there and no older than any file below crates/. What rt keeps in a crate's out/ is no source.
 is_current() {
-    [ -f "$1" ] && [ -z "$(find "$root/crates.txt" "$root/crates" -type f -newer "$1" -print -quit)" ]
+    [ -f "$1" ] && [ -z "$(find "$root/crates.txt" "$root/crates" -name out -prune -o -type f -newer "$1" -print -quit)" ]
 }
 
 # How many crates CRATE rests on, itself among them. The kit's libraries are proved already, and not in crates.txt.
@@ -30,13 +30,13 @@ count_crates() {
             count = split(below[name], names, " ")
             for (i = 1; i <= count; i++) visit(names[i])
         }
-        { sub(/#.*/, ""); if (NF) below[$1] = $2 }
+        { sub(/#.*/, ""); split($1, words, " "); if (NF) below[words[1]] = $2 }
         END { visit(crate); print crates }' "$root/crates.txt"
 }
 
-# Of what rt prints, the names of the crates that are proved. Of a static library's own crate it says so in other words.
+# Of what rt prints, the names of the crates that it proved. A crate below that is built already is not named again.
 proved_crates() {
-    sed -un 's/^rt: \([A-Za-z0-9_]*\) proved (.*/\1/p; s/^rt: .* has the functions of \([A-Za-z0-9_]*\) that are marked.*/\1/p'
+    sed -un '/^crate [A-Za-z0-9_]*:/ { s/^crate \([A-Za-z0-9_]*\):.*/\1/; h; }; /^logic=proved / { g; p; }'
 }
 
 # A line of progress: on a terminal it takes the place of the one before.
@@ -54,7 +54,7 @@ show_progress() {
     while read -r -t 1 crate || [ $? -gt 128 ]; do # above 128: no name within the second
         if [ -n "$crate" ]; then
             proved=$((proved + 1))
-            now="proved crate $proved of $crates ($crate), $((crates - proved)) left"
+            now="proved $crate, $proved of at most $crates crates"
         elif [ ! -t 2 ]; then
             continue
         fi
@@ -66,21 +66,36 @@ show_progress() {
 # What rt said, in the file LOG, of the first crate that is not proved, without the functions of it that are; or what it said last.
 first_failure() {
     awk '
-        /^rt: .* proved \(/ { said = ""; next }
-        !/: proved$|^library / { said = said $0 "\n" }
-        / NOT PROVED/ { exit }
+        /^logic=proved / { said = ""; next }
+        !/: proved$|^library |^statements |^logic |^checked |^so far: / { said = said $0 "\n" }
+        /^logic=not-proved/ { exit }
         END { printf "%s", said }' "$1"
 }
 
-# build WORD CRATE BUILT TITLE: makes the file BUILT of CRATE, called TITLE, by `rt WORD CRATE`. Standard input is not rt's.
+# What rt makes of CRATE, in the crate's out/.
+made_of() {
+    case $1 in
+    sam_c) echo "$root/crates/sam_c/out/libsam_c.a" ;;
+    *) echo "$root/crates/$1/out/$1" ;;
+    esac
+}
+
+# Puts what rt made of CRATE at BUILT; another may be using the one before.
+place() {
+    mkdir -p "$(dirname "$2")"
+    cp "$(made_of "$1")" "$2.$$"
+    mv "$2.$$" "$2"
+}
+
+# build WORD CRATE BUILT TITLE: makes the file BUILT of CRATE, called TITLE, by `rt WORD` in the crate's folder. A program that `rt run` makes is
+# run once, over no input.
 build() {
-    local built=$3 log=$root/target/$2.log
+    local log=$root/target/$2.log
     command -v rt >/dev/null || fail 1 "there is no rt on the path: install the Rattle kit"
     mkdir -p "$root/target"
-    [ -f "$built" ] || rm -f "$root/target/stamp/$2" # what rt has stamped it does not build again
-    if ! (cd "$root" && rt "$1" "$2") </dev/null 2>&1 | tee "$log" | proved_crates | show_progress "$2" "$4"; then
+    if ! (cd "$root/crates/$2" && rt "$1") </dev/null 2>&1 | tee "$log" | proved_crates | show_progress "$2" "$4"; then
         first_failure "$log" >&2
         fail 1 "$4 is not proved; $log has all that rt said"
     fi
-    touch "$built" # where no file of the crate itself was newer, it was not built again
+    place "$2" "$3"
 }

@@ -18,9 +18,9 @@ fail() {
 
 first_command python3 >/dev/null || fail "there is no Python 3 (Debian: apt-get install python3)"
 c_works || fail "$WHY"
-[ -f "$library" ] || fail "there is no $library; make it with: rt staticlib sam_c"
-[ -x "$console" ] || fail "there is no $console; make it with: rt check sam"
-[ -x "$formula_console" ] || fail "there is no $formula_console; make it with: rt check sam_formula"
+[ -f "$library" ] || fail "there is no $library; make it with: ./support"
+[ -x "$console" ] || fail "there is no $console; make it with: ./sam </dev/null"
+[ -x "$formula_console" ] || fail "there is no $formula_console; make it with: ./sam --formula 1"
 
 echo "bench: the interpreter's own tests"
 python3 bench/test_sam.py

@@ -4,7 +4,7 @@
 # instruction packed or assembled, bench/speed.sh --count machine instructions, which have no noise: they are counted by
 # valgrind, or by the emulator's trace on another processor than x86-64, where of times only the ratios say something.
 # The direct ones are compiled by gcc -O2 and, where at hand, by clang -O3. Needs target/staticlib/libsam_c.a
-# (`rt staticlib sam_c`).
+# (`./support` makes it).
 set -eu
 cd "$(dirname "$0")/.."
 . bench/toolchain.sh
@@ -100,7 +100,7 @@ against() {
 }
 
 c_works || skip "$WHY"
-[ -f "$library" ] || skip "no $library; make it with: rt staticlib sam_c"
+[ -f "$library" ] || skip "no $library; make it with: ./support"
 if [ "${1:-}" = --count ]; then
     [ -n "$RUN" ] || first_command valgrind >/dev/null || skip "there is no valgrind (Debian: valgrind)"
 fi

@@ -22,14 +22,10 @@ first_command() {
     return 1
 }
 
-# The folder of the kit's compiler for this machine, found as `rt` finds it.
+# The folder of the kit's compiler, which has the loader and the C library of what `rt` builds.
 kit_toolchain() {
-    home=${RATTLE_HOME:-}
-    if [ -z "$home" ]; then
-        rt=$(command -v rt) || return 1
-        home=$(dirname "$(dirname "$(readlink -f "$rt")")")
-    fi
-    printf '%s\n' "$home/on/$(uname -m)/toolchain"
+    rt=$(command -v rt) || return 1
+    printf '%s\n' "$(dirname "$(dirname "$(readlink -f "$rt")")")/toolchain"
 }
 
 find_native() {
@@ -40,11 +36,11 @@ find_native() {
 }
 
 find_emulated() {
-    PACKAGES="gcc-x86-64-linux-gnu libc6-dev-amd64-cross"
+    PACKAGES="gcc-x86-64-linux-gnu libc6-dev-amd64-cross qemu-user-static"
     FLAGS="$FLAGS -static"
     tools=$(kit_toolchain) || tools=
-    RUN=$(first_command ${SAM_EMULATOR:-} ${tools:+"$tools/bin/qemu-x86_64"} qemu-x86_64-static qemu-x86_64) ||
-        { RUN=; CC=; WHY="there is no emulator for x86-64; the Rattle kit (rt on the path) has one"; return; }
+    RUN=$(first_command ${SAM_EMULATOR:-} qemu-x86_64-static qemu-x86_64) ||
+        { RUN=; CC=; WHY="there is no emulator for x86-64 (Debian: apt-get install $PACKAGES)"; return; }
     RUN_KIT="$RUN${tools:+ $tools/lib/ld-linux-x86-64.so.2 --library-path $tools/lib}"
     CC=$(first_command ${SAM_CC:-} x86_64-linux-gnu-gcc) ||
         { CC=; WHY="there is no C compiler for x86-64 (Debian: apt-get install $PACKAGES)"; }

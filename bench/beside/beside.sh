@@ -23,7 +23,7 @@ echo "nanoseconds a turn of the counting loop"
 if ! c_works; then
     row "sam, plain" "skipped: $WHY"
 elif [ ! -f "$library" ]; then
-    row "sam, plain" "skipped: no $library; make it with: rt staticlib sam_c"
+    row "sam, plain" "skipped: no $library; make it with: ./support"
 else
     $CC $FLAGS -Iinclude -Ibench $here/count.c bench/plain.c "$library" -o "$out/count"
     for side in sam plain; do

@@ -20,10 +20,8 @@ fn put(out: &mut [u64], k: usize, b: u8) -> usize {
 // Puts the numbers of a line from place 1 on, and how many there are into place 0.
 pub(crate) fn numbers(line: &[u8], out: &mut [u64]) {
     let mut k = 0;
-    let mut i = 0;
-    while i < line.len() {
-        k = put(out, k, line[i]);
-        i += 1;
+    for b in line {
+        k = put(out, k, *b);
     }
     if 0 < out.len() {
         out[0] = k as u64;
@@ -35,10 +33,8 @@ pub(crate) fn bytes(numbers: &[u64], out: &mut [u8]) -> usize {
     if numbers.len() <= out.len() {
         return 0;
     }
-    let mut i = 0;
-    while i < out.len() {
+    for i in 0..out.len() {
         out[i] = (numbers[i + 1] % 256) as u8;
-        i += 1;
     }
     numbers[0] as usize
 }

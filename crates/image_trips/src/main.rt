@@ -9,153 +9,169 @@
 //   v  the same into a table one place short
 #![tactic(auto)]
 
-use libc::STDIN_FILENO;
 use rules::sizes::{IMAGE_SIZE, MAX_PROGRAM};
+use std::io;
+use std::io::{Read, Write};
 
 mod hex;
 mod say;
+
+// The bytes that are read at most.
+const INPUT_SIZE: usize = 65_536;
 
 // Whether two tables are the same.
 fn same(a: &[u64], b: &[u64]) -> bool {
     if a.len() != b.len() {
         return false;
     }
-    let mut i = 0;
-    while i < a.len() {
+    for i in 0..a.len() {
         if a[i] != b[i] {
             return false;
         }
-        i += 1;
     }
     true
 }
 
 // Unpacks an image, and says whether the table is there again.
-fn again(image: &[u8], table: &[u64]) {
+fn again<W: Write>(out: &mut W, image: &[u8], table: &[u64]) -> io::Result<()> {
     let mut second = [7u64; MAX_PROGRAM];
-    say::answer(image::unpack(image, &mut second));
+    say::answer(out, image::unpack(image, &mut second))?;
     if same(table, &second) {
-        say::text(b" same");
+        say::text(out, b" same")?;
     }
+    Ok(())
 }
 
-fn packed(table: &[u64], length: usize, image: &mut [u8]) -> usize {
-    let told = say::answer(image::pack(table, length, image));
-    say::image(image, told);
-    told
+fn packed<W: Write>(
+    out: &mut W,
+    table: &[u64],
+    length: usize,
+    image: &mut [u8],
+) -> io::Result<usize> {
+    let told = say::answer(out, image::pack(table, length, image))?;
+    say::image(out, image, told)?;
+    Ok(told)
 }
 
 // There and back.
-fn trip(table: &[u64], length: usize) {
+fn trip<W: Write>(out: &mut W, table: &[u64], length: usize) -> io::Result<()> {
     let mut image = [7u8; IMAGE_SIZE];
-    let told = packed(table, length, &mut image);
+    let told = packed(out, table, length, &mut image)?;
     if told <= IMAGE_SIZE {
-        again(&image[..told], table);
+        again(out, &image[..told], table)?;
     }
+    Ok(())
 }
 
-fn pack(table: &[u64], length: usize) {
+fn pack<W: Write>(out: &mut W, table: &[u64], length: usize) -> io::Result<()> {
     let mut image = [7u8; IMAGE_SIZE];
-    packed(table, length, &mut image);
+    packed(out, table, length, &mut image)?;
+    Ok(())
 }
 
-fn pack_short(table: &[u64], length: usize) {
+fn pack_short<W: Write>(out: &mut W, table: &[u64], length: usize) -> io::Result<()> {
     let mut image = [7u8; IMAGE_SIZE - 1];
-    packed(table, length, &mut image);
+    packed(out, table, length, &mut image)?;
+    Ok(())
 }
 
-fn unpacked(image: &[u8], table: &mut [u64]) {
-    let told = say::answer(image::unpack(image, table));
-    say::places(table, told);
+fn unpacked<W: Write>(out: &mut W, image: &[u8], table: &mut [u64]) -> io::Result<()> {
+    let told = say::answer(out, image::unpack(image, table))?;
+    say::places(out, table, told)
 }
 
-fn unpack(image: &[u8]) {
+fn unpack<W: Write>(out: &mut W, image: &[u8]) -> io::Result<()> {
     let mut table = [7u64; MAX_PROGRAM];
-    unpacked(image, &mut table);
+    unpacked(out, image, &mut table)
 }
 
-fn unpack_short(image: &[u8]) {
+fn unpack_short<W: Write>(out: &mut W, image: &[u8]) -> io::Result<()> {
     let mut table = [7u64; MAX_PROGRAM - 1];
-    unpacked(image, &mut table);
+    unpacked(out, image, &mut table)
 }
 
-fn image_case(kind: u8, image: &[u8]) {
+fn image_case<W: Write>(out: &mut W, kind: u8, image: &[u8]) -> io::Result<()> {
     if kind == b'u' {
-        unpack(image);
+        unpack(out, image)
     } else {
-        unpack_short(image);
+        unpack_short(out, image)
     }
 }
 
 // The numbers of an image are its bytes.
-fn image_of(kind: u8, numbers: &[u64]) {
+fn image_of<W: Write>(out: &mut W, kind: u8, numbers: &[u64]) -> io::Result<()> {
     let mut image = [0u8; 8];
     let n = hex::bytes(numbers, &mut image);
     if n <= 8 {
-        image_case(kind, &image[..n]);
+        image_case(out, kind, &image[..n])?;
     }
+    Ok(())
 }
 
-fn table_case(kind: u8, table: &[u64], length: usize) {
+fn table_case<W: Write>(out: &mut W, kind: u8, table: &[u64], length: usize) -> io::Result<()> {
     match kind {
-        b't' => trip(table, length),
-        b'o' => pack_short(table, length),
-        _ => pack(table, length),
+        b't' => trip(out, table, length),
+        b'o' => pack_short(out, table, length),
+        _ => pack(out, table, length),
     }
 }
 
 // The numbers of a table are a length and the places.
-fn table_of(kind: u8, numbers: &[u64]) {
+fn table_of<W: Write>(out: &mut W, kind: u8, numbers: &[u64]) -> io::Result<()> {
     if numbers.len() < 3 {
-        return;
+        return Ok(());
     }
     let length = numbers[1] as usize;
     if kind == b's' {
-        table_case(kind, &numbers[3..], length);
+        table_case(out, kind, &numbers[3..], length)
     } else {
-        table_case(kind, &numbers[2..], length);
+        table_case(out, kind, &numbers[2..], length)
     }
 }
 
-fn case(line: &[u8]) {
+fn case<W: Write>(out: &mut W, line: &[u8]) -> io::Result<()> {
     if line.len() == 0 {
-        return;
+        return Ok(());
     }
     let kind = line[0];
     let mut numbers = [0u64; MAX_PROGRAM + 2];
     hex::numbers(line, &mut numbers);
     if kind < b'u' {
-        table_of(kind, &numbers);
+        table_of(out, kind, &numbers)?;
     } else {
-        image_of(kind, &numbers);
+        image_of(out, kind, &numbers)?;
     }
-    say::text(b"\n");
+    say::text(out, b"\n")
 }
 
-fn part(line: &[u8], is_name: bool) {
+fn part<W: Write>(out: &mut W, line: &[u8], is_name: bool) -> io::Result<()> {
     if is_name {
-        say::text(line);
+        say::text(out, line)
     } else {
-        case(line);
+        case(out, line)
     }
 }
 
-fn lines(input: &[u8]) {
+fn lines<W: Write>(out: &mut W, input: &[u8]) -> io::Result<()> {
     let mut is_name = true;
     let mut start = 0;
-    let mut i = 0;
-    while i < input.len() {
+    for i in 0..input.len() {
         if input[i] == b'\n' {
-            part(&input[start..i], is_name);
+            part(out, &input[start..i], is_name)?;
             is_name = !is_name;
             start = i + 1;
         }
-        i += 1;
     }
+    Ok(())
 }
 
-fn main() {
-    let mut input = io::large_buffer();
-    let n = io::read_full(STDIN_FILENO, &mut input);
-    lines(&input[..n]);
+// The lines that are read.
+fn read_lines<R: Read, W: Write>(input: &mut R, out: &mut W) -> io::Result<()> {
+    let mut bytes = [0u8; INPUT_SIZE];
+    let n = reader::read_full(input, &mut bytes)?;
+    lines(out, &bytes[..n])
+}
+
+fn main(rt: HostRuntime) -> io::Result<()> {
+    read_lines(&mut rt.stdin(), &mut rt.stdout())
 }

@@ -1,92 +1,86 @@
 // What the program writes: answers, and what a lent output holds.
-use libc::STDOUT_FILENO;
 use rules::Packed;
+use std::io;
+use std::io::Write;
 
-pub(crate) fn text(t: &[u8]) {
-    io::write_all(STDOUT_FILENO, t);
+pub(crate) fn text<W: Write>(out: &mut W, t: &[u8]) -> io::Result<()> {
+    out.write_all(t)
 }
 
 fn wide(b: u8) -> u64 {
     b as u64
 }
 
-fn number(n: u64) {
-    text(b" ");
-    io::print_decimal(STDOUT_FILENO, n);
+fn number<W: Write>(out: &mut W, n: u64) -> io::Result<()> {
+    write!(out, " {n}")
 }
 
 // The number and the length told, which it gives back.
-pub(crate) fn answer(answer: Packed) -> usize {
+pub(crate) fn answer<W: Write>(out: &mut W, answer: Packed) -> io::Result<usize> {
     let told = numbers::packed_length(answer);
-    number(numbers::packed_number(answer) as u64);
-    number(told as u64);
-    told
+    number(out, numbers::packed_number(answer) as u64)?;
+    number(out, told as u64)?;
+    Ok(told)
 }
 
 // What stands behind what was told: zeros, or the sevens that were lent.
-fn rest(seen: u64) {
+fn rest<W: Write>(out: &mut W, seen: u64) -> io::Result<()> {
     if seen == 1 {
-        text(b" zeros");
+        text(out, b" zeros")?;
     }
     if seen == 2 {
-        text(b" kept");
+        text(out, b" kept")?;
     }
+    Ok(())
 }
 
 // Prints a number, or sees whether it is a zero, a seven or another.
-fn see(n: u64, width: usize, prints: bool, seen: u64) -> u64 {
+fn see<W: Write>(out: &mut W, n: u64, width: usize, prints: bool, seen: u64) -> io::Result<u64> {
     if prints {
-        text(b" ");
-        io::print_hex(STDOUT_FILENO, n, width);
-        return seen;
+        write!(out, " {n:0width$x}")?;
+        return Ok(seen);
     }
     if n == 0 {
-        return seen | 1;
+        return Ok(seen | 1);
     }
     if n == 7 {
-        return seen | 2;
+        return Ok(seen | 2);
     }
-    4
+    Ok(4)
 }
 
 // The first n bytes, and the rest.
-fn bytes(image: &[u8], n: usize) {
+fn bytes<W: Write>(out: &mut W, image: &[u8], n: usize) -> io::Result<()> {
     let mut seen = 0;
-    let mut i = 0;
-    while i < image.len() {
-        seen = see(wide(image[i]), 2, i < n, seen);
-        i += 1;
+    for i in 0..image.len() {
+        seen = see(out, wide(image[i]), 2, i < n, seen)?;
     }
-    rest(seen);
+    rest(out, seen)
 }
 
 // The first n places, and the rest.
-pub(crate) fn places(table: &[u64], n: usize) {
+pub(crate) fn places<W: Write>(out: &mut W, table: &[u64], n: usize) -> io::Result<()> {
     let mut seen = 0;
-    let mut i = 0;
-    while i < table.len() {
-        seen = see(table[i], 16, i < n, seen);
-        i += 1;
+    for i in 0..table.len() {
+        seen = see(out, table[i], 16, i < n, seen)?;
     }
-    rest(seen);
+    rest(out, seen)
 }
 
 fn sum_of(image: &[u8]) -> u64 {
     let mut total: u64 = 0;
-    let mut i = 0;
-    while i < image.len() {
-        total = (total + image[i] as u64) % 1_000_000;
-        i += 1;
+    for b in image {
+        total = (total + *b as u64) % 1_000_000;
     }
     total
 }
 
 // The bytes of an image; of a long one, their sum.
-pub(crate) fn image(image: &[u8], told: usize) {
+pub(crate) fn image<W: Write>(out: &mut W, image: &[u8], told: usize) -> io::Result<()> {
     if told <= 18 {
-        bytes(image, told);
+        bytes(out, image, told)
     } else {
-        text(b" sum");
-        number(sum_of(image));
+        text(out, b" sum")?;
+        number(out, sum_of(image))
     }
 }

@@ -1,10 +1,6 @@
 -- What the lister tells of lies within the bytes that it is lent. Assumes nothing.
-use Prim.Native.Nat.{ℕ, ◌≤◌}
-use mathlib.Core.Path.{◌≡◌}
-use mathlib.Core.List.{List}
-use native.Mathlib.Omega.{arith}
-use lib.Dec.{eqb}
-use lib.ListN.{length}
+use Rattle.std.specs.Prelude.{ℕ, ◌≤◌, ◌≡◌, List, eqb, length}
+use Rattle.std.proofs.Common.{arith}
 use Rattle.rules.specs.Sizes.{listing_size}
 use Rattle.rules.specs.Table.{Program, sound_table}
 use Rattle.rules.specs.Listing.{list}

@@ -48,12 +48,10 @@ pub(crate) fn push_numbers(source: &[u8], bits: &mut [u32], tags: &mut [u8]) -> 
 
 // Whether the cells of the names are INTs.
 fn are_ints(tags: &[u8; CELLS]) -> bool {
-    let mut i = 0;
-    while i < NAME_CELLS {
+    for i in 0..NAME_CELLS {
         if tags[i] != tags::INT {
             return false;
         }
-        i += 1;
     }
     true
 }

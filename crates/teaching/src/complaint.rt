@@ -2,6 +2,8 @@
 use crate::show::{show, show_cell};
 use rules::sizes::MAX_PROGRAM;
 use rules::{Assembled, Registers, Step};
+use std::io;
+use std::io::Write;
 
 const SOURCE: [u8; 135] =
     *b"// The complaint: a dwell of four seconds, in tenths, and a trial that stores a float over it
@@ -49,7 +51,7 @@ fn back(
 }
 
 // Shows cell 0 of a machine of 16 cells, 6 history places and no output after the first step, after two more, and after one step-back.
-fn trial(table: &[u64], length: usize) {
+fn trial<W: Write>(out: &mut W, table: &[u64], length: usize) -> io::Result<()> {
     let mut bits = [0u32; 16];
     let mut tags = [0u8; 16];
     let mut history = [0u64; 6];
@@ -71,7 +73,7 @@ fn trial(table: &[u64], length: usize) {
         &mut history,
         &mut output,
     );
-    show_cell(b"before", bits[0], tags[0]);
+    show_cell(out, b"before", bits[0], tags[0])?;
     let second = forth(
         table,
         length,
@@ -90,7 +92,7 @@ fn trial(table: &[u64], length: usize) {
         &mut history,
         &mut output,
     );
-    show_cell(b"trial", bits[0], tags[0]);
+    show_cell(out, b"trial", bits[0], tags[0])?;
     back(
         table,
         length,
@@ -100,16 +102,16 @@ fn trial(table: &[u64], length: usize) {
         &mut history,
         &mut output,
     );
-    show_cell(b"back", bits[0], tags[0]);
+    show_cell(out, b"back", bits[0], tags[0])
 }
 
 // The complaint's program as the console runs it, and the trial.
-pub(crate) fn complaint() {
-    show(b"complaint", &SOURCE);
+pub(crate) fn complaint<W: Write>(out: &mut W) -> io::Result<()> {
+    show(out, b"complaint", &SOURCE)?;
     let mut table = [0u64; MAX_PROGRAM];
     let made = assembler::assemble(&SOURCE, &mut table);
     let Assembled::Made(length) = made else {
-        return;
+        return Ok(());
     };
-    trial(&table, length);
+    trial(out, &table, length)
 }

@@ -3,33 +3,42 @@
 // it writes is held to what an independent interpreter of document 01 prints for the same sources (`bench/teaching.py`).
 #![tactic(auto)]
 
-use libc::STDIN_FILENO;
+use std::io;
+use std::io::{Read, Write};
 
 mod complaint;
 mod show;
 
-fn programs(input: &[u8]) {
+// The bytes that are read at most.
+const INPUT_SIZE: usize = 65_536;
+
+// Shows the programs of an input, each behind the one before it.
+fn programs<W: Write>(out: &mut W, input: &[u8]) -> io::Result<()> {
     let mut start = 0;
     let mut name = 0;
-    let mut i = 0;
-    while i < input.len() {
+    for i in 0..input.len() {
         if input[i] == b'~' {
             name = i + 1;
         } else {
             if input[i] == b'\n' {
                 if start < name {
-                    show::show(&input[name..i], &input[start..name - 1]);
+                    show::show(out, &input[name..i], &input[start..name - 1])?;
                     start = i + 1;
                 }
             }
         }
-        i += 1;
     }
+    Ok(())
 }
 
-fn main() {
-    let mut input = io::large_buffer();
-    let n = io::read_full(STDIN_FILENO, &mut input);
-    programs(&input[..n]);
-    complaint::complaint();
+// Shows the programs that are read, and then the complaint.
+fn show_all<R: Read, W: Write>(input: &mut R, out: &mut W) -> io::Result<()> {
+    let mut bytes = [0u8; INPUT_SIZE];
+    let n = reader::read_full(input, &mut bytes)?;
+    programs(out, &bytes[..n])?;
+    complaint::complaint(out)
+}
+
+fn main(rt: HostRuntime) -> io::Result<()> {
+    show_all(&mut rt.stdin(), &mut rt.stdout())
 }

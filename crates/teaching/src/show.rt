@@ -1,21 +1,22 @@
 // What is written for a program, and for a cell.
-use libc::STDOUT_FILENO;
+use std::io;
+use std::io::Write;
 
 // Writes the line `program NAME`, and what the console prints for the source.
-pub(crate) fn show(name: &[u8], source: &[u8]) {
-    io::write_all(STDOUT_FILENO, b"program ");
-    io::write_all(STDOUT_FILENO, name);
-    io::write_all(STDOUT_FILENO, b"\n");
-    let mut out = [0u8; 32_768];
+pub(crate) fn show<W: Write>(to: &mut W, name: &[u8], source: &[u8]) -> io::Result<()> {
+    to.write_all(b"program ")?;
+    to.write_all(name)?;
+    to.write_all(b"\n")?;
+    let mut out = [0u8; console::OUTPUT_SIZE];
     let told = console::print(source, &mut out);
-    io::write_all(STDOUT_FILENO, &out[..told]);
+    to.write_all(&out[..told])
 }
 
 // Writes a word, a space and the console's line for cell 0.
-pub(crate) fn show_cell(word: &[u8], bits: u32, tag: u8) {
-    io::write_all(STDOUT_FILENO, word);
-    io::write_all(STDOUT_FILENO, b" ");
+pub(crate) fn show_cell<W: Write>(to: &mut W, word: &[u8], bits: u32, tag: u8) -> io::Result<()> {
+    to.write_all(word)?;
+    to.write_all(b" ")?;
     let mut line = [0u8; 64];
     let told = console::put_cell(&mut line, 0, 0, bits, tag);
-    io::write_all(STDOUT_FILENO, &line[..told]);
+    to.write_all(&line[..told])
 }
