@@ -1,6 +1,6 @@
 -- Request a: the line and the column of a place name the byte of that place. For every source and every place of it, the place behind its last byte
 -- among them: the lines that the source is cut into have that line, the line has that column, as many bytes stand before the two as before the
--- place, and the byte there is the same (`same_byte`). No other line and column name that place (`one-position`). Assumes nothing.
+-- place, and the byte there is the same (`same_byte`). No other line and column name that place (`one_position`). Assumes nothing.
 use Prim.Native.Nat.{ℕ, zero, suc, ◌+◌, ◌-◌, ◌≤◌, ◌<◌}
 use mathlib.Core.Path.{◌≡◌, refl, sym, ap, ◌∙◌}
 use mathlib.Core.Bool.{Bool, true, false}

@@ -83,7 +83,7 @@ use Rattle.rules.specs.KeptNumbers.{all_kept}
 -- ---- Request h: "Demand 3 now includes output bytes and their count.": `demand3` and `inverse` have them, among the memory and the registers
 
 use Rattle.rules.specs.Characters.{all_characters}
--- ---- Request i: "Add a call that forgets the k oldest kept steps, moves the rest down, and zeroes the room gained": `demand3`, `takes_back` and `trial-taken-back` have it
+-- ---- Request i: "Add a call that forgets the k oldest kept steps, moves the rest down, and zeroes the room gained": `demand3`, `takes_back` and `trial_taken_back` have it
 
 use Rattle.rules.specs.Forgets.{all_forgettings}
 -- "the records in use" are what request g counts by their step places

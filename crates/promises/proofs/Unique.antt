@@ -1,6 +1,6 @@
 -- No second outcome meets a contract. The contract of each public call says: the answer equals a definition of the inputs, and so does the
 -- content that each lent slice has at the end, refusals included. Two outcomes that meet such a contract on the same inputs are equal: `only`
--- for each of its equations, `only-both` for an answer and a content at once. docs/PROMISES.md lists the calls, with the definition that each
+-- for each of its equations, `only_both` for an answer and a content at once. docs/PROMISES.md lists the calls, with the definition that each
 -- equation cites, and says where a contract has another form. Assumes nothing.
 use mathlib.Core.Path.{◌≡◌, sym, ◌∙◌}
 
