@@ -12,7 +12,7 @@ use borrow.Author.Tests.{le-leb, leb-true, leb-false, eq-eqb}
 use Rattle.rules.specs.Lists.{every}
 use Rattle.rules.specs.Sizes.{max_history}
 use Rattle.rules.specs.Table.{Program}
-use Rattle.rules.specs.State.{Memory, registers_holding, sound}
+use Rattle.rules.specs.State.{Memory, registers_holding}
 use Rattle.rules.specs.Commit.{record_of, grown, history_after, output_after, registers_with, cells_after, room_in}
 use Rattle.rules.specs.Step.{judged, unchanged}
 use Rattle.rules.specs.Back.{back}

@@ -23,7 +23,6 @@ use Rattle.rules.specs.declared.Registers.{Registers}
 use Rattle.rules.specs.declared.Effect.{Effect}
 use Rattle.rules.specs.declared.Decision.{Decision}
 use Rattle.rules.specs.declared.Decision.TheVariants.{Does, Refuses}
-use Rattle.rules.specs.declared.Step.{Step}
 use Rattle.rules.proofs.Fair.{Sound}
 use Rattle.rules.proofs.FairEffects.{sound_facts}
 use Rattle.rules.proofs.Runs.{run_long, run_enter}

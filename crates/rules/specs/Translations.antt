@@ -1,6 +1,6 @@
 -- Document 02, letter m: formulas worked by hand from its words, as one list, and the one statement that each of them is translated, or refused, so; antt computes
 -- it. What a formula becomes is told as a source of the assembler, so that its code is compared by the instructions' names. Assumes nothing.
-use Rattle.std.specs.Prelude.{ℕ, zero, suc, ◌+◌, ◌-◌, ◌≡◌, refl, Bool, true, false, ◌&&◌, List, [], ◌∷◌, ◌++◌, map, length, get_or, take, replicate, eqb, ℤ, pos, negsuc}
+use Rattle.std.specs.Prelude.{ℕ, zero, suc, ◌+◌, ◌-◌, ◌≡◌, refl, Bool, true, false, ◌&&◌, List, [], ◌∷◌, ◌++◌, map, get_or, take, replicate, eqb, ℤ, pos, negsuc}
 use Prim.Native.String.{String}
 use Rattle.rules.specs.Grammar as Grammar
 use Rattle.rules.specs.Evaluate as Evaluate

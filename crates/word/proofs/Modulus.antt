@@ -24,8 +24,8 @@ word_negates (pos (suc n)) = omega arith
 word_negates (negsuc n) = omega arith
 
 -- the product of two remainders
-mod-mul : (m n : ℕ) → m * n % 4294967296 ≡ (m % 4294967296) * (n % 4294967296) % 4294967296
-mod-mul m n =
+mod_mul : (m n : ℕ) → m * n % 4294967296 ≡ (m % 4294967296) * (n % 4294967296) % 4294967296
+mod_mul m n =
     let a : m * n ≡ (m / 4294967296 * 4294967296 + m % 4294967296) * (n / 4294967296 * 4294967296 + n % 4294967296) =
     ap₂ (λ (x y : ℕ). x * y) (sym (div-add-mod' m 4294967296)) (sym (div-add-mod' n 4294967296)) in
     omega (arith, a ∙ parts (m / 4294967296) (m % 4294967296) (n / 4294967296) (n % 4294967296))
@@ -41,7 +41,7 @@ mod-mul m n =
 
 -- a product modulo 2 ^ 32 sees its factors modulo 2 ^ 32
 mod_cong : (m m' n n' : ℕ) → m % 4294967296 ≡ m' % 4294967296 → n % 4294967296 ≡ n' % 4294967296 → m * n % 4294967296 ≡ m' * n' % 4294967296
-mod_cong m m' n n' p q = mod-mul m n ∙ ap₂ (λ (x y : ℕ). x * y % 4294967296) p q ∙ sym (mod-mul m' n')
+mod_cong m m' n n' p q = mod_mul m n ∙ ap₂ (λ (x y : ℕ). x * y % 4294967296) p q ∙ sym (mod_mul m' n')
 
 suc_mod : (n : ℕ) → suc n % 4294967296 ≡ suc (n % 4294967296) % 4294967296
 suc_mod n = omega arith
@@ -63,7 +63,7 @@ word_times_negative m n =
     ∙ sym (times_minus (m % 4294967296) (suc (n % 4294967296)) (mod-lt n (zero-lt-suc 4294967295)))
 
 pub word_times : (x y : ℤ) → word (x *ℤ y) ≡ word x * word y % 2 ^ 32
-word_times (pos m) (pos n) = mod-mul m n
+word_times (pos m) (pos n) = mod_mul m n
 word_times (pos m) (negsuc n) = word_times_negative m n
 word_times (negsuc m) (pos n) =
     ap (λ (k : ℕ). word (neg_ℤ (pos k))) (mul_comm (suc m) n) ∙ word_times_negative n m ∙ ap (λ (x : ℕ). x % 4294967296) (mul_comm (n % 4294967296) (4294967296 - suc (m % 4294967296)))
