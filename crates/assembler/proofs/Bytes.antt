@@ -1,126 +1,117 @@
--- Laws of the bytes of a token: the classes of a byte, the bytes from a place on, words, labels and pieces. Assumes nothing.
-use Prim.Native.Nat.{ℕ, suc, ◌+◌, ◌-◌, ◌≤◌, ◌<◌}
-use mathlib.Core.Path.{◌≡◌, refl, ◌∙◌, ap}
-use mathlib.Core.Bool.{Bool, true, false, ◌||◌}
-use mathlib.Core.List.{List, [], ◌∷◌}
-use native.Mathlib.Omega.{arith}
-use borrow.Author.Tests.{eq-eqb, ne_eqb, le-leb, lt-leb}
-use lib.Dec.{eqb, leb}
-use lib.ListN.{length, take, drop, get_or, drop_of_length-le, length-drop}
-use lib.Seq.{take_all, take-nil}
+-- Laws of the bytes of a token: the first that is not allowed, words, labels and pieces. Assumes nothing.
+use Rattle.std.proofs.Common.{◌≡◌, ℕ, suc, ◌+◌, ◌-◌, ◌<◌, ◌≤◌, Bool, true, false, cond, not, ◌&&◌, eqb, ltb, List, [], ◌∷◌, ◌++◌, length, get_or, take, drop, Bor, Option, Some, None, refl, sym, ap, ◌∙◌, ⊎_elim, arith}
+use Rattle.std.specs.Prelude.{position, MatchOption}
+use Rattle.std.specs.Bool.{then_some}
+use Rattle.std.specs.List.{position_or_len, list_all}
+use Rattle.std.specs.Cmp.Lexicographic.{pointwise}
+use Rattle.std.proofs.lemmas.Bool.{ltb-true, ltb-false, eq-eqb, ne_eqb, cases_lt}
+use Rattle.std.proofs.lemmas.List.{take_at, get_or_at, length_push, length-take-le, take-take, take_more, take_all, get_or_past}
+use Rattle.std.proofs.lemmas.List.Recursion.{same_from_clauses, is_position_or_len}
+use Rattle.std.proofs.lemmas.Option.{cond_some}
+use Rattle.rules.specs.Lists.{same}
 use Rattle.rules.specs.Bytes.{letter, word_byte, allowed, all_word, is_word}
 use Rattle.rules.specs.Assemble.{allowed_run, body, is_label}
-use Rattle.rules.proofs.Tests.{drop_next}
+use Rattle.tokens.specs.Next.{between}
+use Rattle.tokens.proofs.Unique.{length_between}
 use Rattle.assembler.specs.Held.{piece}
+use Rattle.assembler.proofs.Options.{none_false}
 
-or_false : (a : Bool) → (a || false) ≡ a
-or_false true = refl
-or_false false = refl
+-- ---- the rules' tests are std's
 
-module _ (b : ℕ) where
-  pub letter_2 : 65 ≤ b → b ≤ 90 → letter b ≡ true
-  unfolding letter
-  letter_2 h k = rw (le-leb 65 b h, le-leb b 90 k)
+pub same_is : (s t : List ℕ) → same s t ≡ pointwise eqb s t
+unfolding same
+same_is [] [] = refl
+same_is [] (y ∷ ys) = refl
+same_is (x ∷ xs) [] = refl
+same_is (x ∷ xs) (y ∷ ys) = ap (λ b. eqb x y && b) (same_is xs ys)
 
-  pub letter_3 : 90 < b → b < 97 → letter b ≡ false
-  unfolding letter
-  letter_3 h k = rw (lt-leb b 90 h, lt-leb 97 b k, le-leb 65 b (omega arith))
+all_word_is : (t : List ℕ) → all_word t ≡ list_all word_byte t
+unfolding all_word
+all_word_is = same_from_clauses all_word (list_all word_byte) (λ b r. word_byte b && r) refl (λ b s. refl) (λ b s. refl)
 
-  pub letter_4 : 97 ≤ b → letter b ≡ leb b 122
-  unfolding letter
-  letter_4 h = rw (lt-leb b 90 (omega arith), le-leb 97 b h, le-leb 65 b (omega arith))
+-- ---- the first byte that is not allowed
 
-  pub word_1 : letter b ≡ true → word_byte b ≡ true
-  unfolding word_byte
-  word_1 h = rw h
+cond_not : (b : Bool) (x y : ℕ) → cond b x y ≡ cond (not b) y x
+cond_not true x y = refl
+cond_not false x y = refl
 
-  pub word_2 : b ≡ 95 → word_byte b ≡ true
-  unfolding word_byte letter
-  word_2 h = rw h
+run_is : (t : List ℕ) → allowed_run t ≡ position_or_len (λ b. not (allowed b)) t
+unfolding allowed_run
+run_is = is_position_or_len allowed_run (λ b. not (allowed b)) refl (λ b s. cond_not (allowed b) (suc (allowed_run s)) 0 ∙ ap (cond (not (allowed b)) 0) (omega arith))
 
-  pub word_3 : letter b ≡ false → (b ≡ 95 → ⊥) → b < 48 → word_byte b ≡ false
-  unfolding word_byte
-  word_3 h k l = rw (h, ne_eqb b 95 k, lt-leb 48 b l)
+pub run_at : (t : List ℕ) (k : ℕ) → position (λ b. not (allowed b)) t ≡ Some k → (allowed_run t < length t) × (allowed_run t ≡ k)
+run_at t k e =
+    let h = cond_some (ltb (position_or_len (λ b. not (allowed b)) t) (length t)) (position_or_len (λ b. not (allowed b)) t) k e in
+    (rw run_is (ltb-true _ _ h.0), run_is t ∙ h.1)
 
-  pub word_4 : letter b ≡ false → (b ≡ 95 → ⊥) → 48 ≤ b → word_byte b ≡ leb b 57
-  unfolding word_byte
-  word_4 h k l = rw (h, ne_eqb b 95 k, le-leb 48 b l) (or_false (leb b 57))
+pub run_all : (t : List ℕ) → position (λ b. not (allowed b)) t ≡ None → length t ≤ allowed_run t
+run_all t e = rw run_is (ltb-false _ _ (none_false _ _ e))
 
-  pub allowed_1 : word_byte b ≡ true → allowed b ≡ true
-  unfolding allowed
-  allowed_1 h = rw h
+-- ---- words and labels
 
-  pub allowed_2 : word_byte b ≡ false → b ≡ 45 → allowed b ≡ true
-  unfolding allowed
-  allowed_2 h k = rw (h, eq-eqb b 45 k)
-
-  pub allowed_3 : word_byte b ≡ false → (b ≡ 45 → ⊥) → b ≡ 35 → allowed b ≡ true
-  unfolding allowed
-  allowed_3 h k l = rw (h, ne_eqb b 45 k, eq-eqb b 35 l)
-
-  pub allowed_4 : word_byte b ≡ false → (b ≡ 45 → ⊥) → (b ≡ 35 → ⊥) → b ≡ 58 → allowed b ≡ true
-  unfolding allowed
-  allowed_4 h k l m = rw (h, ne_eqb b 45 k, ne_eqb b 35 l, eq-eqb b 58 m)
-
-  pub allowed_5 : word_byte b ≡ false → (b ≡ 45 → ⊥) → (b ≡ 35 → ⊥) → (b ≡ 58 → ⊥) → allowed b ≡ eqb b 46
-  unfolding allowed
-  allowed_5 h k l m = rw (h, ne_eqb b 45 k, ne_eqb b 35 l, ne_eqb b 58 m)
-
-module _ (t : List ℕ) (i : ℕ) where
-  pub run_end : length t ≤ i → allowed_run (drop i t) ≡ 0
-  unfolding allowed_run
-  run_end h = rw (drop_of_length-le t h)
-
-  pub run_no : i < length t → allowed (get_or t i 0) ≡ false → allowed_run (drop i t) ≡ 0
-  unfolding allowed_run
-  run_no h k = rw (drop_next t i h, k)
-
-  pub run_more : i < length t → allowed (get_or t i 0) ≡ true → allowed_run (drop i t) ≡ suc (allowed_run (drop (i + 1) t))
-  unfolding allowed_run
-  run_more h k = ap allowed_run (drop_next t i h) ∙ rw k
-
-  pub all_end : length t ≤ i → all_word (drop i t) ≡ true
-  unfolding all_word
-  all_end h = rw (drop_of_length-le t h)
-
-  pub all_no : i < length t → word_byte (get_or t i 0) ≡ false → all_word (drop i t) ≡ false
-  unfolding all_word
-  all_no h k = rw (drop_next t i h, k)
-
-  pub all_more : i < length t → word_byte (get_or t i 0) ≡ true → all_word (drop i t) ≡ all_word (drop (i + 1) t)
-  unfolding all_word
-  all_more h k = ap all_word (drop_next t i h) ∙ rw k
-
-pub is_empty : (t : List ℕ) → length t ≡ 0 → is_word t ≡ false
+pub word_none : (t : List ℕ) → length t < 1 → is_word t ≡ false
 unfolding is_word
-is_empty [] h = refl
-is_empty (b ∷ s) h = absurd (omega arith)
+word_none [] h = refl
+word_none (b ∷ s) h = absurd (omega arith)
 
-pub is_yes : (t : List ℕ) → 0 < length t → letter (get_or t 0 0) ≡ true → is_word t ≡ all_word (drop 1 t)
+pub word_yes : (t : List ℕ) → 1 ≤ length t → letter (get_or t 0 0) ≡ true → is_word t ≡ list_all word_byte (drop 1 t)
 unfolding is_word
-is_yes [] h k = absurd (omega arith)
-is_yes (b ∷ s) h k = rw k
+word_yes [] h k = absurd (omega arith)
+word_yes (b ∷ s) h k = rw (k, all_word_is)
 
-pub label_empty : (t : List ℕ) → length t ≡ 0 → is_label t ≡ false
+module _ (t name : List ℕ) (e : t ≡ name ++ 58 ∷ []) where
+  last : get_or t (length t - 1) 0 ≡ 58
+  last =
+      let n : length name ≡ length t - 1 = omega (arith, length_push name 58, ap length e) in
+      ap (λ s. get_or s (length t - 1) 0) e ∙ get_or_at name 58 [] 0 (length t - 1) n
+
+  body_is : body t ≡ name
+  unfolding body
+  body_is =
+      let n : length name ≡ length t - 1 = omega (arith, length_push name 58, ap length e) in
+      ap (take (length t - 1)) e ∙ take_at name (58 ∷ []) (length t - 1) n
+
+  label_is : is_label t ≡ is_word name
+  unfolding is_label
+  label_is = rw (eq-eqb _ _ last, body_is)
+
+label_none : (t : List ℕ) → ((front : List ℕ) → t ≡ front ++ 58 ∷ [] → ⊥) → is_label t ≡ false
 unfolding is_label
-label_empty [] h = refl
-label_empty (b ∷ s) h = absurd (omega arith)
+label_none t h =
+    let other : get_or t (length t - 1) 0 ≡ 58 → ⊥ = λ e.
+    ⊎_elim
+    (λ l.
+    let n : length t - 1 + 1 ≡ length t = omega arith in
+    h (take (length t - 1) t)
+    (sym (take_all (length t - 1 + 1) t (omega arith)) ∙ take_more t (length t - 1) 0 (omega arith) ∙ ap (λ b. take (length t - 1) t ++ b ∷ []) e))
+    (λ l. omega (arith, e, get_or_past t (length t - 1) 0 (omega arith)))
+    (cases_lt 0 (length t)) in
+    rw (ne_eqb _ _ other)
 
-pub label_no : (t : List ℕ) → (get_or t (length t - 1) 0 ≡ 58 → ⊥) → is_label t ≡ false
-unfolding is_label
-label_no t h = rw (ne_eqb (get_or t (length t - 1) 0) 58 h)
+-- what a word with a colon behind it leaves of the text before the colon
+pub named_is : (t : List ℕ) (before named : Option (Bor (List ℕ))) (P : Bor (List ℕ) → Bool → Type 0)
+    → ((x : Bor (List ℕ)) (b : Bool) → P x b → b ≡ is_word x.now)
+    → MatchOption before ((front : List ℕ) → t ≡ front ++ 58 ∷ [] → ⊥) (λ x. t ≡ x.now ++ 58 ∷ [])
+    → MatchOption before (named ≡ None) (λ x. (b : Bool) × P x b × (named ≡ then_some b x))
+    → MatchOption named (is_label t ≡ false) (λ name. (is_label t ≡ true) × (name.now ≡ body t))
+named_is t None named P h e k = rw k (label_none t e)
+named_is t (Some x) named P h e (true, p, k) = rw k (label_is t x.now e ∙ sym (h x true p), sym (body_is t x.now e))
+named_is t (Some x) named P h e (false, p, k) = rw k (label_is t x.now e ∙ sym (h x false p))
 
-pub label_yes : (t : List ℕ) → get_or t (length t - 1) 0 ≡ 58 → is_label t ≡ is_word (take (length t - 1) t)
-unfolding is_label body
-label_yes t h = rw (eq-eqb (get_or t (length t - 1) 0) 58 h)
+-- ---- the bytes of a token where they stand in the source
 
-module _ (src : List ℕ) (start len : ℕ) where
-  pub piece_none : length src < start → piece src start len ≡ []
-  unfolding piece
-  piece_none h =
-      let l : length src ≤ start = omega arith in
-      rw (drop_of_length-le src l) (take-nil len)
+module _ (src : List ℕ) (a e : ℕ) (h : a ≤ e) (k : e ≤ length src) where
+  size : length (between src a e) ≡ e - a
+  size = length_between src a e h k
 
-  pub piece_rest : length src - start ≤ len → piece src start len ≡ drop start src
-  unfolding piece
-  piece_rest h = take_all len (drop start src) (rw length-drop h)
+  pub piece_token : piece src a (length (between src a e)) ≡ between src a e
+  unfolding piece between
+  piece_token = ap (λ n. take n (drop a src)) size
+
+  pub piece_body : piece src a (length (body (between src a e))) ≡ body (between src a e)
+  unfolding piece between body
+  piece_body =
+      let t : List ℕ = between src a e in
+      let n : length t - 1 ≤ e - a = omega (arith, size) in
+      let m : length (take (length t - 1) t) ≡ length t - 1 = length-take-le (length t - 1) t (omega arith) in
+      rw m (sym (take-take (length t - 1) (e - a) (drop a src) n))

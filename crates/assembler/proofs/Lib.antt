@@ -1,7 +1,9 @@
+pub mod Options
 pub mod Bytes
 pub mod Labels
+pub mod Items
 pub mod Steps
-pub mod Keep
 pub mod Whole
+pub mod Placed
 pub mod Settle
 pub mod Filled

@@ -1,18 +1,12 @@
 -- Laws of the targets, settled item by item in program order. Assumes nothing.
-use Prim.Native.Nat.{ℕ, ◌+◌, ◌*◌, ◌^◌, ◌/◌, ◌%◌, ◌≤◌, ◌<◌}
-use mathlib.Core.Path.{◌≡◌, refl, sym, ◌∙◌, ap}
-use mathlib.Core.List.{List, [], ◌∷◌, ◌++◌, map}
-use native.Mathlib.Numerals.{add-one}
-use native.Mathlib.Omega.{arith}
-use borrow.Author.Tests.{eq-eqb, ne_eqb, le-leb, lt-leb}
-use lib.ListN.{length, take, drop, get_or, set, drop_of_length-le}
-use lib.Seq.{drop-cons, take-suc-set, length-take-le, get_or-take, get_or-drop, drop-drop, drop-set-lt}
-use Rattle.rules.specs.Assemble.{Label, nowhere, found_at, lookup, Item, Outcome, done, refused, join, settle}
+use Rattle.std.proofs.Common.{◌≡◌, ℕ, ◌+◌, ◌*◌, ◌/◌, ◌%◌, ◌^◌, ◌<◌, ◌≤◌, List, [], ◌∷◌, length, get_or, take, drop, set, map, refl, sym, ap, ap₂, ◌∙◌, arith}
+use Rattle.std.proofs.lemmas.Bool.{eq-eqb, ne_eqb, le-leb, lt-leb}
+use Rattle.std.proofs.lemmas.List.{take_more_set, drop_more, take_all, drop_all, drop-set-lt}
+use Rattle.rules.specs.Assemble.{Label, Found, lookup, Item, done, refused, join, settle, settle_label}
 use Rattle.rules.specs.declared.TextRefusal.{TextRefusal}
-use Rattle.rules.specs.declared.TextRefusal.TheVariants.{OperandRange, LabelUnknown}
+use Rattle.rules.specs.declared.TextRefusal.TheVariants.{OperandRange}
 use Rattle.assembler.specs.Held.{piece, item_at, items_of}
 use Rattle.rules.proofs.Judging.{join_all, join_more, join_done}
-use Rattle.assembler.proofs.Whole.{join_refused}
 
 -- ---- one item in front of others, by its word
 
@@ -33,72 +27,46 @@ module _ (src : List ℕ) (n : ℕ) (ls : List Label) (w : ℕ) (is : List Item)
   unfolding item_at settle
   settle_beyond h k l = rw (ne_eqb (w / 2 ^ 60) 0 h, ne_eqb (w / 2 ^ 60) 1 k, ne_eqb (w / 2 ^ 60) 2 l)
 
-  pub settle_label_lem : w / 2 ^ 60 ≡ 2 → (a : ℕ) → lookup ls (piece src (w / 2 ^ 40 % 2 ^ 20) (w % 2 ^ 32)) ≡ found_at a → settle n ls (item_at src w ∷ is) ≡ join (w / 2 ^ 32 % 2 ^ 8 * 2 ^ 32 + a) (settle n ls is)
+  pub settle_labelled : w / 2 ^ 60 ≡ 2 → (name : List ℕ) (found : Found) → name ≡ piece src (w / 2 ^ 40 % 2 ^ 20) (w % 2 ^ 32) → lookup ls name ≡ found
+      → settle n ls (item_at src w ∷ is) ≡ settle_label (w / 2 ^ 32 % 2 ^ 8) (w / 2 ^ 40 % 2 ^ 20) found (settle n ls is)
   unfolding item_at settle
-  settle_label_lem h a e = rw (h, e)
+  settle_labelled h name found e f = rw (h, ← e, f)
 
-  pub settle_unknown : w / 2 ^ 60 ≡ 2 → lookup ls (piece src (w / 2 ^ 40 % 2 ^ 20) (w % 2 ^ 32)) ≡ nowhere → settle n ls (item_at src w ∷ is) ≡ refused LabelUnknown (w / 2 ^ 40 % 2 ^ 20)
-  unfolding item_at settle
-  settle_unknown h e = rw (h, e)
+-- ---- the items, in order
 
--- ---- the items in the table
+-- a fault behind places
+join_refused : (ws : List ℕ) (k : TextRefusal) (at : ℕ) → join_all ws (refused k at) ≡ refused k at
+unfolding join_all
+join_refused [] k at = refl
+join_refused (w ∷ ws) k at = ap (join w) (join_refused ws k at)
 
--- the items from i on
-unfoldable pub items_from : List ℕ → List ℕ → ℕ → ℕ → List Item
-items_from src table n i = map (item_at src) (drop i (take n table))
+-- the words before i are settled, and in front of the items from i on they give what all items give
+abbrev pub Settled : List ℕ → List ℕ → List Label → List ℕ → ℕ → Type 0
+Settled src old ls words i = settle (length old) ls (items_of src old) ≡ join_all (take i words) (settle (length old) ls (items_of src (drop i words)))
 
-pub items_all : (src table : List ℕ) (n : ℕ) → items_of src table n ≡ items_from src table n 0
-unfolding items_of items_from
-items_all src table n = refl
+pub settled_none : (src old : List ℕ) (ls : List Label) → Settled src old ls old 0
+unfolding join_all
+settled_none src old ls = refl
 
-module _ (src table : List ℕ) (n : ℕ) (h : n ≤ length table) where
-  pub items_end : (i : ℕ) → n ≤ i → items_from src table n i ≡ []
-  unfolding items_from
-  items_end i l =
-      let q : length (take n table) ≤ i = rw (length-take-le n table h) l in
-      rw (drop_of_length-le (take n table) q)
+module _ (src old : List ℕ) (ls : List Label) (words : List ℕ) (i : ℕ) (v : Settled src old ls words i) where
+  opened : i < length words → settle (length old) ls (items_of src old) ≡ join_all (take i words) (settle (length old) ls (item_at src (get_or words i 0) ∷ items_of src (drop (i + 1) words)))
+  unfolding items_of
+  opened l = v ∙ ap (λ (r : List ℕ). join_all (take i words) (settle (length old) ls (map (item_at src) r))) (drop_more words i 0 l)
 
-  pub items_next : (i : ℕ) → i < n → items_from src table n i ≡ item_at src (get_or table i 0) ∷ items_from src table n (i + 1)
-  unfolding items_from
-  items_next i l =
-      let q : i < length (take n table) = rw (length-take-le n table h) l in
-      rw (add-one, drop-cons (take n table) i 0 q, get_or-take n table i 0 l)
+  pub settled_more : (w : ℕ) → i < length words → ((is : List Item) → settle (length old) ls (item_at src (get_or words i 0) ∷ is) ≡ join w (settle (length old) ls is)) → Settled src old ls (set words i w) (i + 1)
+  settled_more w l e =
+      let rest : List ℕ = drop (i + 1) words in
+      opened l
+      ∙ ap (join_all (take i words)) (e (items_of src rest))
+      ∙ sym (join_more (take i words) w (settle (length old) ls (items_of src rest)))
+      ∙ ap₂ (λ (ws r : List ℕ). join_all ws (settle (length old) ls (items_of src r))) (sym (take_more_set words i w l)) (sym (drop-set-lt (i + 1) words i w (omega arith)))
 
--- one place settled
-pub get_same : (a b : List ℕ) (i : ℕ) → drop i a ≡ drop i b → get_or a i 0 ≡ get_or b i 0
-get_same a b i e =
-    let z : i + 0 ≡ i = omega arith in
-    rw z at (sym (get_or-drop i a 0 0) ∙ ap (λ (l : List ℕ). get_or l 0 0) e ∙ get_or-drop i b 0 0)
+  pub settled_stop : (k : TextRefusal) (at : ℕ) → i < length words → ((is : List Item) → settle (length old) ls (item_at src (get_or words i 0) ∷ is) ≡ refused k at) → settle (length old) ls (items_of src old) ≡ refused k at
+  settled_stop k at l e = opened l ∙ ap (join_all (take i words)) (e (items_of src (drop (i + 1) words))) ∙ join_refused (take i words) k at
 
-pub drop_same : (a b : List ℕ) (i v : ℕ) → drop i a ≡ drop i b → drop (i + 1) (set a i v) ≡ drop (i + 1) b
-drop_same a b i v e =
-    drop-set-lt (i + 1) a i v (omega arith) ∙ sym (drop-drop 1 i a) ∙ ap (drop 1) e ∙ drop-drop 1 i b
-
-pub take_more : (a : List ℕ) (i v : ℕ) → i < length a → take (i + 1) (set a i v) ≡ take i a ++ v ∷ []
-take_more a i v h = rw (add-one, take-suc-set a i v h)
-
--- ---- the loop: the places before i are settled
-
-module _ (src old table : List ℕ) (n i : ℕ) (ls : List Label) (X : Outcome) (hn : n ≤ length old) (l : i < n) (d : drop i table ≡ drop i old) (v : X ≡ join_all (take i table) (settle n ls (items_from src old n i))) where
-  opened : X ≡ join_all (take i table) (settle n ls (item_at src (get_or table i 0) ∷ items_from src old n (i + 1)))
-  opened =
-      v ∙ ap (λ (is : List Item). join_all (take i table) (settle n ls is))
-      (items_next src old n hn i l ∙ ap (λ (w : ℕ). item_at src w ∷ items_from src old n (i + 1)) (sym (get_same table old i d)))
-
-  pub settled_more : (w : ℕ) → i < length table → ((is : List Item) → settle n ls (item_at src (get_or table i 0) ∷ is) ≡ join w (settle n ls is)) → X ≡ join_all (take (i + 1) (set table i w)) (settle n ls (items_from src old n (i + 1)))
-  settled_more w k e =
-      opened
-      ∙ ap (join_all (take i table)) (e (items_from src old n (i + 1)))
-      ∙ sym (join_more (take i table) w (settle n ls (items_from src old n (i + 1))))
-      ∙ ap (λ (ws : List ℕ). join_all ws (settle n ls (items_from src old n (i + 1)))) (sym (take_more table i w k))
-
-  pub settled_stop : (k : TextRefusal) (at : ℕ) → ((is : List Item) → settle n ls (item_at src (get_or table i 0) ∷ is) ≡ refused k at) → X ≡ refused k at
-  settled_stop k at e =
-      opened ∙ ap (join_all (take i table)) (e (items_from src old n (i + 1))) ∙ join_refused (take i table) k at
-
-pub settled_end : (src old table : List ℕ) (n i : ℕ) (ls : List Label) (X : Outcome) → n ≤ length old → i ≡ n → X ≡ join_all (take i table) (settle n ls (items_from src old n i)) → X ≡ done (take n table)
-settled_end src old table n i ls X hn e v =
-    v
-    ∙ ap (λ (is : List Item). join_all (take i table) (settle n ls is)) (items_end src old n hn i (omega arith))
-    ∙ join_done n ls (take i table)
-    ∙ ap (λ (k : ℕ). done (take k table)) e
+  pub settled_end : length words ≤ i → settle (length old) ls (items_of src old) ≡ done words
+  unfolding items_of
+  settled_end l =
+      v
+      ∙ ap₂ (λ (ws r : List ℕ). join_all ws (settle (length old) ls (map (item_at src) r))) (take_all i words l) (drop_all i words l)
+      ∙ join_done (length old) ls words

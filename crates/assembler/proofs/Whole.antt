@@ -1,16 +1,15 @@
 -- Laws of the judgement of all tokens and of what comes after the last. Assumes nothing.
-use Prim.Native.Nat.{ℕ}
-use mathlib.Core.Path.{◌≡◌, refl, ◌∙◌, ap}
-use mathlib.Core.List.{List, [], ◌∷◌}
-use lib.ListN.{length}
-use Rattle.rules.specs.Instructions.{codes}
+use Rattle.std.proofs.Common.{◌≡◌, ℕ, true, false, List, [], ◌∷◌, length, take, ap, ◌∙◌}
+use Rattle.std.specs.Option.{is_some}
 use Rattle.rules.specs.Tokens.{Token}
-use Rattle.rules.specs.Assemble.{instruction, operand_for, Progress, go, stop, judge_token, refused, join, settle, finish, after, judge, translated}
+use Rattle.rules.specs.Assemble.{Progress, go, stop, judge_token, refused, settle, finish, after, judge}
 use Rattle.rules.specs.declared.TextRefusal.{TextRefusal}
 use Rattle.rules.specs.declared.TextRefusal.TheVariants.{OperandMissing}
-use Rattle.tokens.specs.Next.{from}
-use Rattle.assembler.specs.Held.{items_of, labels_of, awaited_of, state_of}
-use Rattle.rules.proofs.Judging.{judge_go, join_all}
+use Rattle.assembler.specs.declared.held.FirstPass.{FirstPass}
+use Rattle.assembler.specs.Held.{items_of, labels_of, state_of}
+use Rattle.rules.proofs.Judging.{judge_go}
+use Rattle.assembler.proofs.Items.{size_items}
+use Rattle.assembler.proofs.Options.{none_is, some_is}
 
 -- one token more, or none
 module _ (size : ℕ) (s : Progress) (ts : List Token) where
@@ -25,22 +24,12 @@ module _ (size : ℕ) (s : Progress) (ts : List Token) where
   unfolding judge
   judge_stop t rest k at e h = ap (judge size s) e ∙ ap (after (λ s'. judge size s' rest)) h
 
--- before the first token
-pub starts : (src table labels : List ℕ) → translated src ≡ judge (length src) (state_of src table labels (record { n = 0; m = 0; wait = codes })) (from src 0)
-unfolding translated state_of items_of labels_of awaited_of from
-starts src table labels = refl
-
 -- after the last token
-pub finish_all : (size : ℕ) (s : Progress) → s.awaited ≡ instruction → finish size s ≡ settle (length s.items) s.labels s.items
-unfolding finish
-finish_all size s h = rw h
+module _ (src table : List ℕ) (p : FirstPass) where
+  pub finish_all : is_some p.awaited ≡ false → finish (length src) (state_of src table p) ≡ settle (length (take p.items table)) (labels_of src (take p.named p.labels)) (items_of src (take p.items table))
+  unfolding finish state_of
+  finish_all h = rw (none_is p.awaited h, size_items)
 
-pub finish_missing : (size : ℕ) (s : Progress) (c : ℕ) → s.awaited ≡ operand_for c → finish size s ≡ refused OperandMissing size
-unfolding finish
-finish_missing size s c h = rw h
-
--- a fault behind places
-pub join_refused : (ws : List ℕ) (k : TextRefusal) (at : ℕ) → join_all ws (refused k at) ≡ refused k at
-unfolding join_all
-join_refused [] k at = refl
-join_refused (w ∷ ws) k at = ap (join w) (join_refused ws k at)
+  pub finish_missing : is_some p.awaited ≡ true → finish (length src) (state_of src table p) ≡ refused OperandMissing (length src)
+  unfolding finish state_of
+  finish_missing h = rw (some_is p.awaited h).1

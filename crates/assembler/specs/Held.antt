@@ -1,26 +1,12 @@
--- How the assembler holds what it has read: the table's first n places hold the items, the first m of the labels' places the labels, and
--- `codes` in place of a code says that no operand is awaited. Assumes nothing.
-use Rattle.std.specs.Prelude.{ℕ, ◌^◌, ◌/◌, ◌%◌, ◌≤◌, ◌<◌, ◌≡◌, Bool, true, false, cond, List, ◌∷◌, map, eqb, ltb, length, take}
+-- How the assembler holds what it has read: the table's first places hold the items, and the first labels of the list those that were read. Assumes nothing.
+use Rattle.std.specs.Prelude.{ℕ, ◌^◌, ◌/◌, ◌%◌, ◌≤◌, ◌≡◌, cond, List, map, eqb, length, take, Option, Some, None, Result, Ok, Err, ⊤}
 use Rattle.rules.specs.Lists.{part}
-use Rattle.rules.specs.Sizes.{max_program, max_labels}
-use Rattle.rules.specs.Instructions.{codes}
-use Rattle.rules.specs.Positions.{position_of}
-use Rattle.rules.specs.Assemble.{Label, Found, nowhere, found_at, Item, finished, numbered, beyond, labelled, Awaited, instruction, operand_for, Progress, Reading, item, bad, Judged, go, stop, Outcome, done, refused, join, settle, finish}
-use Rattle.rules.specs.declared.Kind.{Kind}
-use Rattle.rules.specs.declared.Kind.TheVariants.{Bare, Immediate, Pattern, Offset, Target, Character}
-use Rattle.rules.specs.declared.Assembled.{Assembled}
-use Rattle.rules.specs.declared.Assembled.TheVariants.{Made, Fault}
-use Rattle.assembler.specs.declared.held.Got.{Got}
-use Rattle.assembler.specs.declared.held.Got.TheVariants.{Word, Bad}
-use Rattle.assembler.specs.declared.held.Sought.{Sought}
-use Rattle.assembler.specs.declared.held.Sought.TheVariants.{At, Nowhere}
-use Rattle.assembler.specs.declared.held.Held.{Held}
-use Rattle.assembler.specs.declared.held.Verdict.{Verdict}
-use Rattle.assembler.specs.declared.held.Verdict.TheVariants.{Go, Stop}
-use Rattle.assembler.specs.declared.held.Settled.{Settled}
-use Rattle.assembler.specs.declared.held.Settled.TheVariants.{Full, No}
-use Rattle.assembler.specs.declared.held.Translation.{Translation}
-use Rattle.assembler.specs.declared.held.Translation.TheVariants.{Done, Refused}
+use Rattle.rules.specs.Sizes.{max_program}
+use Rattle.rules.specs.Assemble.{Label, Found, nowhere, found_at, Item, finished, numbered, beyond, labelled, Awaited, instruction, operand_for, Progress, Reading, item, bad, Judged, go, stop, Outcome, done, refused, join, finish}
+use Rattle.rules.specs.declared.TextRefusal.{TextRefusal}
+use Rattle.assembler.specs.declared.held.Stop.{Stop}
+use Rattle.assembler.specs.declared.held.Label as held
+use Rattle.assembler.specs.declared.held.FirstPass.{FirstPass}
 
 -- ---- words
 
@@ -37,76 +23,71 @@ item_at src w =
     (cond (eqb (w / 2 ^ 60) 2) (labelled (w / 2 ^ 32 % 2 ^ 8) (w / 2 ^ 40 % 2 ^ 20) (piece src (w / 2 ^ 40 % 2 ^ 20) (w % 2 ^ 32)))
     (beyond (w / 2 ^ 40 % 2 ^ 20))))
 
--- a label: from bit 17 on its start, from bit 11 on its length, and its address
-unfoldable pub label_at : List ℕ → ℕ → Label
-label_at src w = record { text = piece src (w / 2 ^ 17) (w / 2 ^ 11 % 2 ^ 6); address = w % 2 ^ 11 }
+-- the fields of an item's word
+pub record PackedAs (kind start code low w : ℕ) : Type 0 where
+  pub kind_in : w / 2 ^ 60 ≡ kind
+  pub start_in : w / 2 ^ 40 % 2 ^ 20 ≡ start
+  pub code_in : w / 2 ^ 32 % 2 ^ 8 ≡ code
+  pub low_in : w % 2 ^ 32 ≡ low
+
+-- a label, by where its name stands
+unfoldable pub label_at : List ℕ → held.Label → Label
+label_at src l = record { text = piece src l.start l.length; address = l.address }
 
 -- ---- the state
 
-unfoldable pub items_of : List ℕ → List ℕ → ℕ → List Item
-items_of src table n = map (item_at src) (take n table)
+unfoldable pub items_of : List ℕ → List ℕ → List Item
+items_of src words = map (item_at src) words
 
-unfoldable pub labels_of : List ℕ → List ℕ → ℕ → List Label
-labels_of src labels m = map (label_at src) (take m labels)
+unfoldable pub labels_of : List ℕ → List held.Label → List Label
+labels_of src labels = map (label_at src) labels
 
-unfoldable pub awaited_of : ℕ → Awaited
-awaited_of wait = cond (ltb wait codes) (operand_for wait) instruction
+abbrev pub awaited_of : Option ℕ → Awaited
+awaited_of None = instruction
+awaited_of (Some code) = operand_for code
 
-unfoldable pub state_of : List ℕ → List ℕ → List ℕ → Held → Progress
-state_of src table labels s =
-    record { items = items_of src table s.n; labels = labels_of src labels s.m; awaited = awaited_of s.wait }
-
--- a state that the assembler reaches: it has room for the operand that it awaits
-pub record Well (s : Held) : Type 0 where
-  pub few : s.n ≤ max_program
-  pub named : s.m ≤ max_labels
-  pub room : s.wait < codes → s.n < max_program
+unfoldable pub state_of : List ℕ → List ℕ → FirstPass → Progress
+state_of src table p =
+    record { items = items_of src (take p.items table); labels = labels_of src (take p.named p.labels); awaited = awaited_of p.awaited }
 
 -- ---- what the functions answer
 
-abbrev pub awaits : Kind → Bool
-awaits Bare = false
-awaits Immediate = true
-awaits Pattern = true
-awaits Offset = true
-awaits Target = true
-awaits Character = true
+-- a label that was sought
+abbrev pub found_of : Option ℕ → Found
+found_of None = nowhere
+found_of (Some address) = found_at address
 
--- a label that was sought, and its address
-abbrev pub SoughtIs : Found → Sought → Type 0
-SoughtIs x (At a) = (x ≡ found_at a) × (a < 2 ^ 11)
-SoughtIs x Nowhere = x ≡ nowhere
+-- an operand that was read
+abbrev pub reading_of : List ℕ → Result ℕ TextRefusal → Reading
+reading_of src (Ok w) = item (item_at src w)
+reading_of src (Err e) = bad e
 
--- what an operand's reading gave
-abbrev pub Says : List ℕ → Reading → Got → Type 0
-Says src x (Word w) = x ≡ item (item_at src w)
-Says src x (Bad e) = x ≡ bad e
+-- a refusal, with the place of its token
+abbrev pub placed : ℕ → Result ⊤ TextRefusal → Result ⊤ Stop
+placed at (Ok _) = Ok tt
+placed at (Err e) = Err (record { refusal = e; place = at })
 
--- what a token's judgement gave, with the table and the labels as they are then
-abbrev pub JudgedIs : List ℕ → List ℕ → List ℕ → Judged → Verdict → Type 0
-JudgedIs src table labels x (Go s) = Well s × (x ≡ go (state_of src table labels s))
-JudgedIs src table labels x (Stop e at) = x ≡ stop e at
+-- a token that was judged, with the table and the state as they are then
+abbrev pub judged_of : List ℕ → List ℕ → FirstPass → Result ⊤ Stop → Judged
+judged_of src table p (Ok _) = go (state_of src table p)
+judged_of src table p (Err s) = stop s.refusal s.place
 
--- what the judgement of all tokens gave
-abbrev pub JudgedAll : List ℕ → List ℕ → List ℕ → Outcome → Verdict → Type 0
-JudgedAll src table labels x (Go s) = Well s × (x ≡ finish (length src) (state_of src table labels s))
-JudgedAll src table labels x (Stop e at) = x ≡ refused e at
+-- all tokens, judged
+abbrev pub judged_all : List ℕ → List ℕ → FirstPass → Result ⊤ Stop → Outcome
+judged_all src table p (Ok _) = finish (length src) (state_of src table p)
+judged_all src table p (Err s) = refused s.refusal s.place
 
--- what settling an item gave, in front of any others
-abbrev pub SettledIs : List ℕ → ℕ → List Label → ℕ → Settled → Type 0
-SettledIs src n ls w (Full v) = (is : List Item) → settle n ls (item_at src w ∷ is) ≡ join v (settle n ls is)
-SettledIs src n ls w (No e at) = (is : List Item) → settle n ls (item_at src w ∷ is) ≡ refused e at
+-- an item that was settled, in front of others
+abbrev pub settled_of : Result ℕ Stop → Outcome → Outcome
+settled_of (Ok w) rest = join w rest
+settled_of (Err s) rest = refused s.refusal s.place
+
+-- all items, settled
+abbrev pub settled_all : List ℕ → Result ⊤ Stop → Outcome
+settled_all words (Ok _) = done words
+settled_all words (Err s) = refused s.refusal s.place
 
 -- what a source gave, with the table as it is then
-abbrev pub OutcomeIs : List ℕ → Outcome → Translation → Type 0
-OutcomeIs table x (Done n) = (n ≤ max_program) × (x ≡ done (take n table))
-OutcomeIs table x (Refused e at) = x ≡ refused e at
-
--- the places of the table that it keeps, and the answer that it is
-abbrev pub used_by : Translation → ℕ
-used_by (Done n) = n
-used_by (Refused e at) = 0
-
-abbrev pub answer_of : List ℕ → Translation → Assembled
-answer_of source (Done n) = Made n
-answer_of source (Refused e at) = Fault e (position_of source at)
+abbrev pub OutcomeIs : List ℕ → Outcome → Result ℕ Stop → Type 0
+OutcomeIs table x (Ok n) = (n ≤ max_program) × (x ≡ done (take n table))
+OutcomeIs table x (Err s) = x ≡ refused s.refusal s.place

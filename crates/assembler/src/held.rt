@@ -1,48 +1,35 @@
 // What the assembler's functions hold and hand on.
-use rules::{TextRefusal, codes};
+ghost use Rattle.std.specs.Prelude.{◌≤◌, ◌<◌};
+ghost use Rattle.std.specs.Option.{ForSome};
+ghost use Rattle.rules.specs.Sizes.{max_program, max_labels};
+ghost use Rattle.rules.specs.Instructions.{codes};
 
-// In place of a code: no operand is awaited.
-pub(crate) const NO_CODE: usize = codes::COUNT;
+use rules::{TextRefusal, sizes};
 
-// An operand, as the item's word in a table's place, or its refusal.
+// A refusal, and the place in the source that it is told with.
 #[derive(Clone, Copy)]
-pub(crate) enum Got {
-    Word(u64),
-    Bad(TextRefusal),
+pub(crate) struct Stop {
+    pub refusal: TextRefusal,
+    pub place: usize,
 }
 
-// A label that was sought: its address, or that there is none.
+// A label: where its name stands in the source, and its address. Eight bytes, so that all of them take no more than 2,048 of the stack.
 #[derive(Clone, Copy)]
-pub(crate) enum Sought {
-    At(u64),
-    Nowhere,
+pub(crate) struct Label {
+    pub start: u32,
+    pub length: u8,
+    pub address: u16,
 }
 
-// The first pass: how many items and labels there are, and the code whose operand is awaited, or NO_CODE.
-#[derive(Clone, Copy)]
-pub(crate) struct Held {
-    pub n: usize,
-    pub m: usize,
-    pub wait: usize,
-}
-
-// A token or all tokens judged: the state after, or the refusal and its place.
-#[derive(Clone, Copy)]
-pub(crate) enum Verdict {
-    Go(Held),
-    Stop(TextRefusal, usize),
-}
-
-// An item settled: the table's place, or the refusal and its place.
-#[derive(Clone, Copy)]
-pub(crate) enum Settled {
-    Full(u64),
-    No(TextRefusal, usize),
-}
-
-// A source translated: how many of the table's places hold the program, or the refusal and its place.
-#[derive(Clone, Copy)]
-pub(crate) enum Translation {
-    Done(usize),
-    Refused(TextRefusal, usize),
+// What the first pass has read: how many items stand in the table; the labels, the first `named` of the list; and the code whose operand is awaited, for which the table has room.
+// Stays: the labels are a list with a count beside it, since there is no heap (a rule of the project).
+#[derive(Drop)]
+pub(crate) struct FirstPass {
+    pub items: usize,
+    pub labels: [Label; sizes::MAX_LABELS],
+    pub named: usize,
+    pub awaited: Option<usize>,
+    ghost few_items: { items ≤ max_program },
+    ghost few_labels: { named ≤ max_labels },
+    ghost room: { ForSome awaited (λ code. (code < codes) × (items < max_program)) },
 }

@@ -1,164 +1,123 @@
 // The first pass: the tokens are judged one at a time from the left, until one is at fault.
-ghost use Rattle.std.specs.Prelude.{◌≡◌, List, ℕ, ◌-◌, ◌≤◌, ◌<◌, length};
-ghost use Rattle.rules.specs.Sizes.{max_source, max_program, max_labels};
+ghost use Rattle.std.specs.Prelude.{◌≡◌, List, ℕ, ◌≤◌, ◌<◌, length, take};
+ghost use Rattle.rules.specs.Sizes.{max_source, max_program};
 ghost use Rattle.rules.specs.Instructions.{codes, kind_of};
-ghost use Rattle.rules.specs.Assemble.{operand_of_kind, new_label, new_name, new_operand, judge_token, translated};
-ghost use Rattle.tokens.specs.Next.{between};
-ghost use Rattle.assembler.specs.Held.{piece, state_of, awaits, Well, JudgedIs, JudgedAll};
+ghost use Rattle.rules.specs.Assemble.{code_named, operand_of_kind, new_label, new_name, new_operand, judge_token, judge};
+ghost use Rattle.tokens.specs.Next.{from, between};
+ghost use Rattle.assembler.specs.Held.{piece, state_of, placed, judged_of, judged_all};
 
-use crate::held::{Got, Held, NO_CODE, Sought, Verdict};
+use crate::held::{FirstPass, Label, Stop};
 use crate::{classes, operand, search};
 use program::table::CODE_WEIGHT;
-use rules::{Kind, TextRefusal, codes, sizes};
-use tokens::Next;
+use rules::{Kind, TextRefusal, sizes};
+use tokens::Token;
 
-// A label, whose name is the token's bytes but the last.
-fn take_label(src: &[u8], labels: &mut [u64], s: Held, start: usize, end: usize) -> Verdict
-    requires { Well s × ((length labels.old ≡ max_labels) × ((start < end) × ((end ≤ length src.now) × (length src.now ≤ max_source)))) }
-    ensures { (table : List ℕ) → length table ≡ max_program → JudgedIs src.now table labels.new (new_label (state_of src.now table labels.old s) start (piece src.now start (end - start - 1))) result }
-{
-    let n = s.n;
-    let m = s.m;
-    let wait = s.wait;
-    let len = end - start - 1;
-    if len > sizes::MAX_LABEL {
-        return Verdict::Stop(TextRefusal::LabelTooLong, start);
+// Stays: each contract asks for the table's length, since of a `&mut [u64; N]` that `try_from` makes of a slice no proof knows what is left in the slice (tried).
+impl FirstPass {
+    // The labels that were read.
+    pub(crate) fn labels(&self) -> &[Label]
+        ensures { result.now ≡ take self.now.named self.now.labels }
+    {
+        &self.labels[..self.named]
     }
-    let sought = search::find_label(src, labels, m, search::piece_of(src, start, len));
-    match sought {
-        Sought::At(_) => Verdict::Stop(TextRefusal::LabelTwice, start),
-        Sought::Nowhere => {
-            if m >= sizes::MAX_LABELS {
-                return Verdict::Stop(TextRefusal::TooManyLabels, start);
+
+    // A label, whose name starts at `start`: its address is the number of the items before it.
+    fn take_label(&mut self, source: &[u8], start: usize, name: &[u8]) -> Result<(), TextRefusal>
+        requires { (start ≤ max_source) × (piece source.now start (length name.now) ≡ name.now) }
+        ensures { (table : List ℕ) → length table ≡ max_program → new_label (state_of source.now table self.old) start name.now ≡ judged_of source.now table self.new (placed start result) }
+    {
+        if name.len() > sizes::MAX_LABEL {
+            return Err(TextRefusal::LabelTooLong);
+        }
+        if search::find_label(source, self.labels(), name).is_some() {
+            return Err(TextRefusal::LabelTwice);
+        }
+        if self.named == sizes::MAX_LABELS {
+            return Err(TextRefusal::TooManyLabels);
+        }
+        self.labels[self.named] = Label {
+            start: start as u32,
+            length: name.len() as u8,
+            address: self.items as u16,
+        };
+        self.named += 1;
+        Ok(())
+    }
+
+    // An instruction's name: its operand comes next, or the table has its place.
+    fn take_name(&mut self, table: &mut [u64], name: &[u8]) -> Result<(), TextRefusal>
+        requires { (length table.old ≡ max_program) × (self.old.awaited ≡ None) }
+        ensures { (source : List ℕ) (start : ℕ) → new_name (state_of source table.old self.old) start (code_named name.now) ≡ judged_of source table.new self.new (placed start result) }
+    {
+        let Some(code) = program::names::code_named(name) else {
+            return Err(TextRefusal::NoInstruction);
+        };
+        if self.items == sizes::MAX_PROGRAM {
+            return Err(TextRefusal::TooManyInstructions);
+        }
+        match program::kinds::kind_of(code) {
+            Kind::Bare => {
+                table[self.items] = code as u64 * CODE_WEIGHT;
+                self.items += 1;
             }
-            labels[m] = (start as u64) * search::START_WEIGHT
-                + (len as u64) * search::LENGTH_WEIGHT
-                + (n as u64);
-            Verdict::Go(Held {
-                n: n,
-                m: m + 1,
-                wait: wait,
-            })
+            _ => self.awaited = Some(code),
         }
+        Ok(())
     }
-}
 
-// Whether an instruction of the kind awaits an operand.
-fn awaits_operand(kind: Kind) -> bool
-    ensures { result ≡ awaits kind }
-{
-    match kind {
-        Kind::Bare => false,
-        Kind::Immediate => true,
-        Kind::Pattern => true,
-        Kind::Offset => true,
-        Kind::Target => true,
-        Kind::Character => true,
+    // The operand of the code, which starts at `start`.
+    fn take_operand(
+        &mut self,
+        table: &mut [u64],
+        code: usize,
+        start: usize,
+        t: &[u8],
+    ) -> Result<(), TextRefusal>
+        requires { (length table.old ≡ max_program) × ((self.old.items < max_program) × ((code < codes) × (start ≤ max_source))) }
+        ensures { (source : List ℕ) → piece source start (length t.now) ≡ t.now → new_operand (state_of source table.old self.old) start (operand_of_kind (kind_of code) code start t.now) ≡ judged_of source table.new self.new (placed start result) }
+    {
+        table[self.items] = operand::read_operand(code, start, t)?;
+        self.items += 1;
+        self.awaited = None;
+        Ok(())
     }
-}
 
-// An instruction's name, with its code, which is past the last where it is none.
-fn take_name(table: &mut [u64], s: Held, start: usize, code: usize) -> Verdict
-    requires { Well s × ((length table.old ≡ max_program) × (codes ≤ s.wait)) }
-    ensures { (src labels : List ℕ) → JudgedIs src table.new labels (new_name (state_of src table.old labels s) start code) result }
-{
-    let n = s.n;
-    let m = s.m;
-    if code >= codes::COUNT {
-        return Verdict::Stop(TextRefusal::NoInstruction, start);
-    }
-    if n >= sizes::MAX_PROGRAM {
-        return Verdict::Stop(TextRefusal::TooManyInstructions, start);
-    }
-    if awaits_operand(program::kinds::kind_of(code)) {
-        return Verdict::Go(Held {
-            n: n,
-            m: m,
-            wait: code,
-        });
-    }
-    table[n] = (code as u64) * CODE_WEIGHT;
-    Verdict::Go(Held {
-        n: n + 1,
-        m: m,
-        wait: NO_CODE,
-    })
-}
-
-// The operand of the code that awaits one.
-fn take_operand(src: &[u8], table: &mut [u64], s: Held, start: usize, end: usize) -> Verdict
-    requires { Well s × ((length table.old ≡ max_program) × ((s.wait < codes) × ((start ≤ end) × ((end ≤ length src.now) × (length src.now ≤ max_source))))) }
-    ensures { (labels : List ℕ) → JudgedIs src.now table.new labels (new_operand (state_of src.now table.old labels s) start (operand_of_kind (kind_of s.wait) s.wait start (between src.now start end))) result }
-{
-    let n = s.n;
-    let m = s.m;
-    let wait = s.wait;
-    let got = operand::read_operand(src, wait, start, end);
-    match got {
-        Got::Bad(e) => Verdict::Stop(e, start),
-        Got::Word(w) => {
-            table[n] = w;
-            Verdict::Go(Held {
-                n: n + 1,
-                m: m,
-                wait: NO_CODE,
-            })
+    // One token judged.
+    fn judge_token(&mut self, source: &[u8], table: &mut [u64], token: Token) -> Result<(), Stop>
+        requires { (length table.old ≡ max_program) × ((token.start < token.end) × ((token.end ≤ length source.now) × (length source.now ≤ max_source))) }
+        ensures { judge_token (state_of source.now table.old self.old) (record { at = token.start; text = between source.now token.start token.end }) ≡ judged_of source.now table.new self.new result }
+    {
+        let Token { start, end } = token;
+        let t = &source[start..end];
+        if let Some(at) = classes::first_forbidden(t) {
+            return Err(Stop {
+                refusal: TextRefusal::ForbiddenByte,
+                place: start + at,
+            });
         }
-    }
-}
-
-// One token judged: the state after it, or the refusal.
-fn judge_token(
-    src: &[u8],
-    table: &mut [u64],
-    labels: &mut [u64],
-    s: Held,
-    start: usize,
-    end: usize,
-) -> Verdict
-    requires { Well s × ((length table.old ≡ max_program) × ((length labels.old ≡ max_labels) × ((start < end) × ((end ≤ length src.now) × (length src.now ≤ max_source))))) }
-    ensures { JudgedIs src.now table.new labels.new (judge_token (state_of src.now table.old labels.old s) (record { at = start; text = between src.now start end })) result }
-{
-    let wait = s.wait;
-    let t = &src[start..end];
-    let run = classes::allowed_run(t);
-    if run < t.len() {
-        return Verdict::Stop(TextRefusal::ForbiddenByte, start + run);
-    }
-    if wait < NO_CODE {
-        return take_operand(src, table, s, start, end);
-    }
-    if classes::is_label(t) {
-        return take_label(src, labels, s, start, end);
-    }
-    take_name(table, s, start, program::names::code_named(t))
-}
-
-// All tokens judged: the state after the last, or the first refusal.
-pub(crate) fn judge_all(src: &[u8], table: &mut [u64], labels: &mut [u64]) -> Verdict
-    requires { (length table.old ≡ max_program) × ((length labels.old ≡ max_labels) × (length src.now ≤ max_source)) }
-    ensures { JudgedAll src.now table.new labels.new (translated src.now) result }
-{
-    let mut s = Held {
-        n: 0,
-        m: 0,
-        wait: NO_CODE,
-    };
-    let mut at = 0;
-    loop {
-        let found = tokens::next_token(src, at);
-        match found {
-            Next::Done => return Verdict::Go(s),
-            Next::Found(start, end) => {
-                let verdict = judge_token(src, table, labels, s, start, end);
-                match verdict {
-                    Verdict::Stop(e, p) => return Verdict::Stop(e, p),
-                    Verdict::Go(next) => {
-                        s = next;
-                        at = end;
-                    }
-                }
-            }
+        let stop = |refusal| Stop {
+            refusal,
+            place: start,
+        };
+        if let Some(code) = self.awaited {
+            return self.take_operand(table, code, start, t).map_err(stop);
         }
+        if let Some(name) = classes::label_name(t) {
+            return self.take_label(source, start, name).map_err(stop);
+        }
+        self.take_name(table, t).map_err(stop)
+    }
+
+    // All tokens judged, until one is at fault.
+    pub(crate) fn judge_all(&mut self, source: &[u8], table: &mut [u64]) -> Result<(), Stop>
+        requires { (length table.old ≡ max_program) × (length source.now ≤ max_source) }
+        ensures { judge (length source.now) (state_of source.now table.old self.old) (from source.now 0) ≡ judged_all source.now table.new self.new result }
+    {
+        let mut at = 0;
+        while let Some(token) = tokens::next_token(source, at) {
+            self.judge_token(source, table, token)?;
+            at = token.end;
+        }
+        Ok(())
     }
 }

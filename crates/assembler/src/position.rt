@@ -8,19 +8,20 @@ use rules::Position;
 pub(crate) fn position_of(source: &[u8], place: usize) -> Position
     ensures { result ≡ position_of source.now place }
 {
+    let before = &source[..place.min(source.len())];
     let mut line = 1;
-    let mut start = 0;
-    let mut i = 0;
-    while i < place && i < source.len() {
-        if source[i] == b'\n' {
+    let mut column = 1;
+    for b in before {
+        if *b == b'\n' {
             line += 1;
-            start = i + 1;
+            column = 1;
+        } else {
+            column += 1;
         }
-        i += 1;
     }
     Position {
-        place: place,
-        line: line,
-        column: i - start + 1,
+        place,
+        line,
+        column,
     }
 }

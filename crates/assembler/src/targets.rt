@@ -1,63 +1,45 @@
 // The second pass: each item becomes the table's place, in program order, until a target is at fault.
-ghost use Rattle.std.specs.Prelude.{◌≡◌, ◌≤◌, length};
-ghost use Rattle.rules.specs.Sizes.{max_program};
-ghost use Rattle.rules.specs.Assemble.{settle};
-ghost use Rattle.assembler.specs.Held.{items_of, labels_of, SettledIs, OutcomeIs};
+ghost use Rattle.std.specs.Prelude.{◌≡◌, List, ◌∷◌, length};
+ghost use Rattle.rules.specs.Assemble.{Item, settle};
+ghost use Rattle.assembler.specs.Held.{item_at, items_of, labels_of, settled_of, settled_all};
 
-use crate::held::{Settled, Sought, Translation};
+use crate::held::{Label, Stop};
 use crate::{operand, search};
 use program::table::CODE_WEIGHT;
 use rules::TextRefusal;
 
-// One item, in a program of n instructions and m labels.
-fn settle_item(src: &[u8], labels: &[u64], n: usize, m: usize, w: u64) -> Settled
-    requires { (m ≤ length labels.now) × (n ≤ max_program) }
-    ensures { SettledIs src.now n (labels_of src.now labels.now m) w result }
+// One item, in a program of n instructions.
+fn settle_item(source: &[u8], labels: &[Label], n: usize, item: u64) -> Result<u64, Stop>
+    ensures { (is : List Item) → settle n (labels_of source.now labels.now) (item_at source.now item ∷ is) ≡ settled_of result (settle n (labels_of source.now labels.now) is) }
 {
-    let kind = w / operand::KIND_WEIGHT;
-    let start = (w / operand::START_WEIGHT % operand::START_SPAN) as usize;
-    let code = w / CODE_WEIGHT % operand::CODE_SPAN * CODE_WEIGHT;
-    let low = w % CODE_WEIGHT;
-    if kind == operand::FINISHED {
-        return Settled::Full(w);
-    }
-    if kind == operand::NUMBERED {
-        if low <= n as u64 {
-            return Settled::Full(code + low);
+    let start = (item / operand::START_WEIGHT % operand::START_SPAN) as usize;
+    let code = item / CODE_WEIGHT % operand::CODE_SPAN * CODE_WEIGHT;
+    let low = item % CODE_WEIGHT;
+    let stop = |refusal| Stop {
+        refusal,
+        place: start,
+    };
+    match item / operand::KIND_WEIGHT {
+        operand::FINISHED => Ok(item),
+        operand::NUMBERED if low <= n as u64 => Ok(code + low),
+        operand::LABELLED => {
+            let name = search::piece_of(source, start, low as usize);
+            match search::find_label(source, labels, name) {
+                Some(address) => Ok(code + u64::from(address)),
+                None => Err(stop(TextRefusal::LabelUnknown)),
+            }
         }
-        return Settled::No(TextRefusal::OperandRange, start);
-    }
-    if kind != operand::LABELLED {
-        return Settled::No(TextRefusal::OperandRange, start);
-    }
-    let sought = search::find_label(src, labels, m, search::piece_of(src, start, low as usize));
-    match sought {
-        Sought::At(address) => Settled::Full(code + address),
-        Sought::Nowhere => Settled::No(TextRefusal::LabelUnknown, start),
+        _ => Err(stop(TextRefusal::OperandRange)),
     }
 }
 
 // All items, in program order.
-pub(crate) fn settle_all(
-    src: &[u8],
-    table: &mut [u64],
-    labels: &[u64],
-    n: usize,
-    m: usize,
-) -> Translation
-    requires { (length table.old ≡ max_program) × ((m ≤ length labels.now) × (n ≤ max_program)) }
-    ensures { OutcomeIs table.new (settle n (labels_of src.now labels.now m) (items_of src.now table.old n)) result }
+pub(crate) fn settle_all(source: &[u8], items: &mut [u64], labels: &[Label]) -> Result<(), Stop>
+    ensures { settle (length items.old) (labels_of source.now labels.now) (items_of source.now items.old) ≡ settled_all items.new result }
 {
-    let mut i = 0;
-    while i < n {
-        let settled = settle_item(src, labels, n, m, table[i]);
-        match settled {
-            Settled::No(e, at) => return Translation::Refused(e, at),
-            Settled::Full(w) => {
-                table[i] = w;
-                i += 1;
-            }
-        }
+    let n = items.len();
+    for item in items.iter_mut() {
+        *item = settle_item(source, labels, n, *item)?;
     }
-    Translation::Done(n)
+    Ok(())
 }

@@ -1,4 +1,6 @@
 -- The run of the console: what it leaves, that SP stays below 1,000, and that at most 256 bytes are written. Assumes nothing.
+use Rattle.std.specs.Prelude.{Ok, Err}
+use Rattle.std.specs.Result.{result_unwrap_or}
 use Prim.Native.Nat.{ℕ, zero, suc, ◌+◌, ◌≤◌, ◌<◌}
 use mathlib.Core.Path.{◌≡◌, refl, subst}
 use mathlib.Core.Bool.{true, false}
@@ -12,12 +14,12 @@ use Rattle.rules.specs.Table.{Program, sound_table}
 use Rattle.rules.specs.State.{Memory, memory, sound}
 use Rattle.rules.specs.Step.{step}
 use Rattle.rules.specs.Run.{Ran, run_from, run}
-use Rattle.rules.specs.Reset.{cleared, size_tests, reset}
+use Rattle.rules.specs.Reset.{cleared, size_tests, registers_begun, reset}
 use Rattle.rules.specs.Console.{console_limit, console_memory, console_run}
 use Rattle.rules.specs.declared.Registers.{Registers}
-use Rattle.rules.specs.declared.Reset.{Reset}
 use Rattle.rules.specs.declared.Run.{Run}
 use Rattle.rules.specs.declared.Step.{Step}
+use Rattle.rules.specs.Answers.{Begun}
 use Rattle.rules.specs.declared.Step.TheVariants.{Next, Refused}
 use Rattle.state.specs.Outcomes.{started}
 use Rattle.rules.proofs.Tests.{by_test}
@@ -67,7 +69,7 @@ run_within p limit r m w =
 cleared_within : (n h : ℕ) → Within (cleared n h)
 cleared_within n h = record { sp = omega arith; written = omega arith }
 
-reset_within : (p : Program) (m : Memory) → Within (reset p m).answer.registers
+reset_within : (p : Program) (m : Memory) → Within (registers_begun (reset p m).answer)
 unfolding reset
 reset_within p m =
     by_test (every (size_tests m))
@@ -78,12 +80,16 @@ pub console_within : (p : Program) → Within (console_run p).answer.registers
 unfolding console_run
 console_within p =
     let start = reset p console_memory in
-    run_within p console_limit start.answer.registers start.memory (reset_within p console_memory)
+    run_within p console_limit (registers_begun start.answer) start.memory (reset_within p console_memory)
 
 pub ran_within : (p : Program) (a : Run) (m : Memory) → console_run p ≡ record { answer = a; memory = m } → Within a.registers
 ran_within p a m e = subst (λ (x : Ran). Within x.answer.registers) e (console_within p)
 
 -- ---- what the reset and the run of the console leave
+
+or_zeros : (s : Begun) → result_unwrap_or s (cleared 0 0) ≡ registers_begun s
+or_zeros (Ok r) = refl
+or_zeros (Err e) = refl
 
 none_left : (l : List ℕ) → length l ≡ 0 → l ≡ []
 none_left [] e = refl
@@ -91,15 +97,17 @@ none_left (x ∷ l) e = absurd (let y : ⊥ = omega (arith, e) in y)
 
 module _
     (p : Program)
-    (s : Reset)
+    (s : Begun)
+    (r : Registers)
     (a : Run)
     (b₁ t₁ h₁ o₁ b₂ t₂ h₂ o₂ : List ℕ)
+    (starts : r ≡ result_unwrap_or s (cleared 0 0))
     (begins : started s b₁ t₁ h₁ o₁ ≡ reset p console_memory)
-    (tells : a ≡ (run p console_limit s.registers (memory b₁ t₁ h₁ o₁)).answer)
-    (leaves : memory b₂ t₂ h₂ o₂ ≡ (run p console_limit s.registers (memory b₁ t₁ h₁ o₁)).memory)
+    (tells : a ≡ (run p console_limit r (memory b₁ t₁ h₁ o₁)).answer)
+    (leaves : memory b₂ t₂ h₂ o₂ ≡ (run p console_limit r (memory b₁ t₁ h₁ o₁)).memory)
     (bare : length h₂ ≡ 0) where
   pub console_ran : console_run p ≡ record { answer = a; memory = memory b₂ t₂ [] o₂ }
   unfolding console_run
   console_ran =
-      let e : memory b₂ t₂ [] o₂ ≡ (run p console_limit s.registers (memory b₁ t₁ h₁ o₁)).memory = rw (none_left h₂ bare) at leaves in
-      rw (← begins, tells, e)
+      let e : memory b₂ t₂ [] o₂ ≡ (run p console_limit r (memory b₁ t₁ h₁ o₁)).memory = rw (none_left h₂ bare) at leaves in
+      rw (← begins, tells, e, starts, or_zeros)

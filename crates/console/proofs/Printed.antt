@@ -1,4 +1,5 @@
 -- What is printed: how long it can be, and what it is for each answer of the assembler. Assumes nothing.
+use Rattle.std.specs.Prelude.{Ok, Err}
 use Prim.Native.Nat.{ℕ, ◌-◌, ◌≤◌}
 use mathlib.Core.Path.{◌≡◌}
 use mathlib.Core.List.{List, ◌++◌}
@@ -9,10 +10,8 @@ use Rattle.rules.specs.Numbers.{text_number}
 use Rattle.rules.specs.Table.{program}
 use Rattle.rules.specs.Assemble.{assemble}
 use Rattle.rules.specs.Console.{report, console_run, refused_line, printed_for, printed}
-use Rattle.rules.specs.declared.Assembled.{Assembled}
-use Rattle.rules.specs.declared.Assembled.TheVariants.{Made, Fault}
-use Rattle.rules.specs.declared.Position.{Position}
-use Rattle.rules.specs.declared.TextRefusal.{TextRefusal}
+use Rattle.rules.specs.Answers.{Assembled}
+use Rattle.rules.specs.declared.SourceFault.{SourceFault}
 use Rattle.digits.specs.Put.{Put}
 use Rattle.digits.proofs.Laws.{put_zeros}
 use Rattle.console.specs.Room.{print_room}
@@ -23,10 +22,10 @@ use Rattle.console.proofs.ConsoleRun.{console_within}
 
 printed_for_short : (table : List ℕ) (a : Assembled) → length (printed_for table a) ≤ print_room
 unfolding printed_for
-printed_for_short table (Made n) =
+printed_for_short table (Ok n) =
     let p = program table n in
     report_short (console_run p) (console_within p).sp (console_within p).written
-printed_for_short table (Fault e p) = omega (arith, refused_short (text_number e) p)
+printed_for_short table (Err x) = omega (arith, refused_short (text_number x.refusal) x.position)
 
 pub printed_short : (source : List ℕ) → length (printed source) ≤ print_room
 unfolding printed
@@ -37,13 +36,13 @@ printed_short source =
 -- ---- the two answers of the assembler
 
 module _ (source table : List ℕ) (a : Assembled) (et : table ≡ (assemble source (replicate max_program 0)).table) (ea : a ≡ (assemble source (replicate max_program 0)).answer) where
-  pub printed_made : (n : ℕ) → a ≡ Made n → printed source ≡ report (console_run (program table n))
+  pub printed_made : (n : ℕ) → a ≡ Ok n → printed source ≡ report (console_run (program table n))
   unfolding printed printed_for
   printed_made n e = rw (← ea, e, et)
 
-  pub printed_fault : (x : TextRefusal) (p : Position) → a ≡ Fault x p → printed source ≡ refused_line (text_number x) p
+  pub printed_fault : (x : SourceFault) → a ≡ Err x → printed source ≡ refused_line (text_number x.refusal) x.position
   unfolding printed printed_for
-  printed_fault x p e = rw (← ea, e)
+  printed_fault x e = rw (← ea, e)
 
 -- what is printed stands in front, and zeros after it
 pub shown : (source new t : List ℕ) (r : ℕ) → printed source ≡ t → Put (replicate print_room 0) new 0 t r

@@ -5,12 +5,12 @@ use mathlib.Core.List.{List, [], ◌∷◌, ◌++◌, append_assoc, append-nil}
 use native.Mathlib.Nat.{add-zero, zero-add}
 use native.Mathlib.Numerals.{add-one}
 use native.Mathlib.Omega.{arith}
-use lib.ListN.{length, get_or, take, length-append, length-take}
+use lib.ListN.{length, take, length-append, length-take}
 use Rattle.rules.specs.Lists.{text}
 use Rattle.rules.specs.Sizes.{max_cells, max_output}
 use Rattle.rules.specs.Listing.{decimal}
 use Rattle.rules.specs.Numbers.{number_of_ending}
-use Rattle.rules.specs.Cells.{cells}
+use Rattle.rules.specs.Cells.{Cells, cell_at}
 use Rattle.rules.specs.Run.{Ran}
 use Rattle.rules.specs.Console.{line, cell_line, cell_lines, out_line, report, refused_line}
 use Rattle.rules.specs.declared.Position.{Position}
@@ -21,32 +21,31 @@ use Rattle.console.proofs.OutLine.{out_short}
 
 -- ---- the live cells, one more at a time
 
-module _ (b t : List ℕ) where
+module _ (c : Cells) where
   cell_text : ℕ → List ℕ
-  cell_text i = cell_line i (record { bits = get_or b i 0; tag = get_or t i 0 })
+  cell_text i = cell_line i (cell_at c (record { 0 = i }))
 
-  lines_more : (k i : ℕ) → cell_lines (cells b t) i (suc k) ≡ cell_lines (cells b t) i k ++ cell_text (i + k)
+  lines_more : (k i : ℕ) → cell_lines c i (suc k) ≡ cell_lines c i k ++ cell_text (i + k)
   unfolding cell_lines cell_text
   lines_more zero i = rw add-zero (append-nil (cell_text i))
   lines_more (suc k) i =
       let q : i + 1 + k ≡ i + suc k = omega arith in
       ap (λ (l : List ℕ). cell_text i ++ l) (rw q at (lines_more k (i + 1)))
-      ∙ sym (append_assoc (cell_text i) (cell_lines (cells b t) (i + 1) k) (cell_text (i + suc k)))
+      ∙ sym (append_assoc (cell_text i) (cell_lines c (i + 1) k) (cell_text (i + suc k)))
 
-  pub cells_none : cell_lines (cells b t) 0 0 ≡ []
+  pub cells_none : cell_lines c 0 0 ≡ []
   unfolding cell_lines
   cells_none = refl
 
-  pub cells_next : (i : ℕ)
-      → cell_lines (cells b t) 0 (i + 1) ≡ cell_lines (cells b t) 0 i ++ cell_line i (record { bits = get_or b i 0; tag = get_or t i 0 })
+  pub cells_next : (i : ℕ) → cell_lines c 0 (i + 1) ≡ cell_lines c 0 i ++ cell_line i (cell_at c (record { 0 = i }))
   unfolding cell_text
   cells_next i = rw add-one (rw zero-add at (lines_more i 0))
 
-  cells_short : (k i : ℕ) → length (cell_lines (cells b t) i k) ≤ 29 * k
+  cells_short : (k i : ℕ) → length (cell_lines c i k) ≤ 29 * k
   unfolding cell_lines
   cells_short zero i = omega arith
   cells_short (suc k) i =
-      rw length-append (omega (arith, cell_short i (get_or b i 0) (get_or t i 0), cells_short k (i + 1)))
+      rw length-append (omega (arith, cell_short i (cell_at c (record { 0 = i })), cells_short k (i + 1)))
 
 -- ---- the first lines
 
@@ -83,6 +82,6 @@ report_short a below within =
     let r = a.answer.registers in
     let o = a.memory.output in
     let ending = ending_short (number_of_ending a.answer.ending) a.answer.steps in
-    let lines = cells_short a.memory.cells.bits a.memory.cells.tags r.sp 0 in
+    let lines = cells_short a.memory.cells r.sp 0 in
     rw (report_parts a, length-append, length-append, length-append)
     (omega (arith, ending, registers_short r.pc r.sp r.fbr, lines, out_short (take r.written o), length-take r.written o))

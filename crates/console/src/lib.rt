@@ -12,7 +12,8 @@ ghost use Rattle.rules.specs.Console.{printed};
 ghost use Rattle.console.specs.Room.{print_room};
 
 pub use lines::put_cell;
-use rules::{Assembled, sizes};
+use program::Program;
+use rules::sizes;
 
 // The bytes that are lent for what is printed: enough for every source.
 pub const OUTPUT_SIZE: usize = 32_768;
@@ -23,11 +24,14 @@ pub fn print(source: &[u8], out: &mut [u8; OUTPUT_SIZE]) -> usize
 {
     *out = [0; OUTPUT_SIZE];
     let mut table = [0u64; sizes::MAX_PROGRAM];
-    let made = assembler::assemble(source, &mut table);
-    match made {
-        Assembled::Made(length) => report::put_run(out, &table, length),
-        Assembled::Fault(refusal, position) => {
-            lines::put_refused(out, numbers::text_number(refusal) as usize, position)
-        }
+    match assembler::assemble(source, &mut table) {
+        Ok(length) => report::put_run(
+            out,
+            Program {
+                table: &table,
+                length,
+            },
+        ),
+        Err(fault) => lines::put_refused(out, fault),
     }
 }

@@ -6,36 +6,40 @@ ghost use Rattle.rules.specs.Console.{bytes_text, out_line};
 ghost use Rattle.digits.specs.Put.{Put};
 ghost use Rattle.console.specs.Room.{print_room};
 
+// "each byte as a space and two hex capitals".
+const BYTE_DIGITS: usize = 2;
+
 // Writes a space and a byte as two hex digits.
+#[tactic(auto, using(rules::proofs::Texts::length_hex))]
 fn put_shown(out: &mut [u8], at: usize, byte: u8) -> usize
     requires { at + 3 ≤ print_room }
     ensures { Put out.old out.new at (space ∷ hex 2 byte) result }
 {
     digits::put_byte(out, at, 0, b' ');
-    digits::put_hex_pair(out, at + 1, byte) + 1
+    digits::put_hex(out, at + 1, byte as u32, BYTE_DIGITS) + 1
 }
 
 // Writes each of the bytes so, and LF.
+#[tactic(auto, using(rules::proofs::Texts::length_hex))]
 fn put_bytes(out: &mut [u8], at: usize, bytes: &[u8]) -> usize
     requires { at + 3 * length bytes.now < print_room }
     ensures { Put out.old out.new at (bytes_text bytes.now) result }
 {
     let mut told = 0;
-    let mut i = 0;
-    while i < bytes.len() {
-        told += put_shown(out, at + told, bytes[i]);
-        i += 1;
+    for byte in bytes {
+        told += put_shown(out, at + told, *byte);
     }
     digits::put_byte(out, at, told, b'\n');
     told + 1
 }
 
 // Writes the line `out` where there are bytes, and nothing where there are none.
+#[tactic(auto, using(crate::proofs::OutLine::length_bytes))]
 pub(crate) fn put_out(out: &mut [u8], at: usize, bytes: &[u8]) -> usize
     requires { at + 3 * length bytes.now + 4 ≤ print_room }
     ensures { Put out.old out.new at (out_line bytes.now) result }
 {
-    if bytes.len() == 0 {
+    if bytes.is_empty() {
         return 0;
     }
     let n = digits::put_text(out, at, b"out");

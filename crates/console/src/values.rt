@@ -6,20 +6,25 @@ ghost use Rattle.rules.specs.Console.{value_text};
 ghost use Rattle.digits.specs.Put.{Put};
 
 use crate::words::put_number;
-use rules::tags;
+use rules::{Cell, tags};
+
+// A hex digit for each four of 32 bits.
+const PATTERN_DIGITS: usize = 8;
 
 // Writes the bits of a FLOAT, and LF.
+#[tactic(auto, using(rules::proofs::Texts::length_hex))]
 fn put_pattern(out: &mut [u8], at: usize, bits: u32) -> usize
     requires { at ≤ 64 }
     ensures { Put out.old out.new at ((hash ∷ hex 8 bits) ++ LF ∷ []) result × (result ≤ 12) }
 {
     digits::put_byte(out, at, 0, b'#');
-    let n = digits::put_hex(out, at + 1, bits);
+    let n = digits::put_hex(out, at + 1, bits, PATTERN_DIGITS);
     digits::put_byte(out, at, n + 1, b'\n');
     n + 2
 }
 
 // Writes a signed number, and LF.
+#[tactic(auto, using(rules::proofs::Texts::length_signed))]
 fn put_signed(out: &mut [u8], at: usize, bits: u32) -> usize
     ensures { Put out.old out.new at (signed_text bits ++ LF ∷ []) result × (result ≤ 12) }
 {
@@ -29,15 +34,14 @@ fn put_signed(out: &mut [u8], at: usize, bits: u32) -> usize
 }
 
 // Writes the value of a cell, and LF.
-pub(crate) fn put_value(out: &mut [u8], at: usize, bits: u32, tag: u8) -> usize
+#[tactic(auto, unfolding(rules::specs::Console::value_text))]
+pub(crate) fn put_value(out: &mut [u8], at: usize, cell: Cell) -> usize
     requires { at ≤ 64 }
-    ensures { Put out.old out.new at (value_text bits tag ++ LF ∷ []) result × (result ≤ 12) }
+    ensures { Put out.old out.new at (value_text cell.bits cell.tag ++ LF ∷ []) result × (result ≤ 12) }
 {
-    if tag == tags::FLOAT {
-        return put_pattern(out, at, bits);
+    match cell.tag {
+        tags::FLOAT => put_pattern(out, at, cell.bits),
+        tags::PA => put_number(out, at, cell.bits as usize, b'\n'),
+        _ => put_signed(out, at, cell.bits),
     }
-    if tag == tags::PA {
-        return put_number(out, at, bits as usize, b'\n');
-    }
-    put_signed(out, at, bits)
 }

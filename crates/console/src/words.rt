@@ -17,6 +17,7 @@ pub(crate) fn put_word(out: &mut [u8], at: usize, word: &[u8], after: u8) -> usi
 }
 
 // Writes a number and the byte after it.
+#[tactic(auto, using(rules::proofs::Texts::length_decimal))]
 pub(crate) fn put_number(out: &mut [u8], at: usize, n: usize, after: u8) -> usize
     ensures { Put out.old out.new at (decimal 9 n ++ after ∷ []) result × (result ≤ 11) }
 {
@@ -34,25 +35,23 @@ pub(crate) fn put_named(out: &mut [u8], at: usize, word: &[u8], n: usize, after:
     a + put_number(out, at + a, n, after)
 }
 
+// The name of a tag, where it has one.
+fn name_of(tag: u8) -> &'static [u8]
+    ensures { result.now ≡ tag_name tag }
+{
+    match tag {
+        tags::INT => b"INT",
+        tags::FLOAT => b"FLOAT",
+        tags::MA => b"MA",
+        tags::PA => b"PA",
+        tags::CH => b"CH",
+        _ => b"",
+    }
+}
+
 // Writes the name of a tag, and a space.
 pub(crate) fn put_tag(out: &mut [u8], at: usize, tag: u8) -> usize
     ensures { Put out.old out.new at (tag_name tag ++ space ∷ []) result × (result ≤ 6) }
 {
-    if tag == tags::INT {
-        return put_word(out, at, b"INT", b' ');
-    }
-    if tag == tags::FLOAT {
-        return put_word(out, at, b"FLOAT", b' ');
-    }
-    if tag == tags::MA {
-        return put_word(out, at, b"MA", b' ');
-    }
-    if tag == tags::PA {
-        return put_word(out, at, b"PA", b' ');
-    }
-    if tag == tags::CH {
-        return put_word(out, at, b"CH", b' ');
-    }
-    digits::put_byte(out, at, 0, b' ');
-    1
+    put_word(out, at, name_of(tag), b' ')
 }

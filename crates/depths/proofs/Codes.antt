@@ -1,42 +1,43 @@
 -- What the table of instructions tells of a code: whether it is forbidden, what it leaves, and where it goes on. Assumes nothing.
 use Prim.Native.Nat.{ℕ, suc, ◌+◌, ◌-◌, ◌≤◌, ◌<◌}
 use mathlib.Core.Path.{◌≡◌, refl, sym, ap, ◌∙◌}
-use mathlib.Core.Bool.{Bool, true, false, not, ◌&&◌, ◌||◌, and-true}
-use mathlib.Core.List.{List, [], ◌∷◌}
+use mathlib.Core.Bool.{Bool, true, false, ◌||◌}
+use mathlib.Core.List.{[], ◌∷◌}
 use native.Mathlib.Nat.{add-zero}
 use native.Mathlib.Omega.{arith}
-use lib.Dec.{ltb}
+use lib.Dec.{ltb, eqb}
 use lib.IntN.{ℤ, pos, negsuc, ◌+ℤ◌}
 use lib.ListN.{get_or-eq_default}
-use borrow.Author.Tests.{le-ltb, ltb-true, ltb-false, not-true}
-use Rattle.rules.specs.Lists.{text, same, all}
+use borrow.Author.Tests.{ne_eqb, le-ltb, ltb-true, ltb-false}
+use Rattle.rules.specs.Lists.{text, same}
 use Rattle.rules.specs.Words.{signed}
 use Rattle.rules.specs.Effects.{memory_address}
 use Rattle.rules.specs.Actions.{taken, add_sp}
 use Rattle.rules.specs.Decide.{Action}
 use Rattle.rules.specs.Instructions.{Row, codes, rows, row_of, action_of}
 use Rattle.rules.specs.DepthList.{depth_after, followers, is_named, forbidden}
-use Rattle.rules.proofs.Tests.{by_test, never, below}
+use Rattle.rules.proofs.Tests.{by_test, never, alike, alike_equal, below, at_below}
 use Rattle.rules.proofs.Rows.{EachRow, end, ◌then◌, at_code}
-use Rattle.program.proofs.OneOf.{one_of, NoneOf, elsewhere}
 
--- ---- forbidden: POPSP, JUMPIND, JSR, JSRIND, the last first
+-- ---- forbidden: POPSP, JUMPIND, JSR, JSRIND
 
-abbrev forbidden_codes : List ℕ
-forbidden_codes = 48 ∷ 47 ∷ 46 ∷ 35 ∷ []
+abbrev is_one : ℕ → Bool
+is_one c = eqb c 35 || (eqb c 46 || (eqb c 47 || eqb c 48))
 
-codes_right : below (λ c. one_of forbidden_codes c || not (forbidden (row_of c))) codes ≡ true
-unfolding one_of forbidden text same row_of rows
+codes_right : below (λ c. alike (is_one c) (forbidden (row_of c))) codes ≡ true
+unfolding forbidden text same row_of rows
 codes_right = refl
 
-past_allowed : (c : ℕ) → codes ≤ c → forbidden (row_of c) ≡ false
+past_allowed : (c : ℕ) → codes ≤ c → forbidden (row_of c) ≡ is_one c
 unfolding forbidden text same row_of rows
-past_allowed c h = ap forbidden (get_or-eq_default rows _ h)
+past_allowed c h =
+    ap forbidden (get_or-eq_default rows _ h)
+    ∙ sym (rw (ne_eqb c 35 (λ e. omega (arith, e, h)), ne_eqb c 46 (λ e. omega (arith, e, h)), ne_eqb c 47 (λ e. omega (arith, e, h)), ne_eqb c 48 (λ e. omega (arith, e, h))) refl)
 
-pub allowed_elsewhere : (c : ℕ) → NoneOf forbidden_codes c → forbidden (row_of c) ≡ false
-allowed_elsewhere c n =
+pub forbidden_is : (c : ℕ) → forbidden (row_of c) ≡ is_one c
+forbidden_is c =
     by_test (ltb c codes)
-    (λ h. not-true _ (elsewhere forbidden_codes (λ k. not (forbidden (row_of k))) codes codes_right c (ltb-true c codes h) n))
+    (λ h. sym (alike_equal _ _ (at_below (λ k. alike (is_one k) (forbidden (row_of k))) codes codes_right c (ltb-true c codes h))))
     (λ h. past_allowed c (ltb-false c codes h))
 
 -- ---- the depth after: what was below what it needs, and what it leaves in its place
@@ -91,23 +92,24 @@ leaves_rows =
     then never then (λ h n d q. refl) then (λ h n d q. refl) then (λ h n d q. refl) then (λ h n d q. refl) then (λ h n d q. add-zero _)
     then end
 
-pub leaves_after : (code : ℕ) → forbidden (row_of code) ≡ false → LeavesOf (action_of code)
+pub depth_moved : (code n depth : ℕ) → forbidden (row_of code) ≡ false → (action_of code).needs n ≤ depth
+    → depth_after (action_of code) n depth ≡ depth - (action_of code).needs n + depth_after (action_of code) n ((action_of code).needs n)
 unfolding action_of
-leaves_after code h = at_code LeavesRow leaves_rows code h
+depth_moved code n depth h low = sym (at_code LeavesRow leaves_rows code h n depth low)
 
 -- ---- where it goes on: STOP, JUMP and JUMPC each in its own way, all others to the place behind
 
-stop_followers : (n place : ℕ) → followers (action_of 0) n place ≡ []
+pub follows_stop : (code n place : ℕ) → code ≡ 0 → followers (action_of code) n place ≡ []
 unfolding followers action_of row_of rows
-stop_followers n place = refl
+follows_stop code n place e = rw e refl
 
-jump_followers : (n place : ℕ) → followers (action_of 44) n place ≡ n ∷ n ∷ []
+pub follows_jump : (code n place : ℕ) → code ≡ 44 → followers (action_of code) n place ≡ n ∷ n ∷ []
 unfolding followers action_of row_of rows
-jump_followers n place = refl
+follows_jump code n place e = rw e refl
 
-jumpc_followers : (n place : ℕ) → followers (action_of 45) n place ≡ (place + 1) ∷ n ∷ []
+pub follows_jumpc : (code n place : ℕ) → code ≡ 45 → followers (action_of code) n place ≡ (place + 1) ∷ n ∷ []
 unfolding followers action_of row_of rows
-jumpc_followers n place = refl
+follows_jumpc code n place e = rw e refl
 
 leads : Row → Bool
 leads w = is_named w ("STOP" ∷ "JUMP" ∷ "JUMPC" ∷ [])
@@ -138,55 +140,20 @@ next_rows =
     then (λ l h. never h) then (λ l h n k. refl) then (λ l h n k. refl) then (λ l h n k. refl) then (λ l h n k. refl) then (λ l h n k. refl)
     then end
 
--- the codes of the three, the last first
-abbrev leading_codes : List ℕ
-leading_codes = 45 ∷ 44 ∷ 0 ∷ []
-
-leads_right : below (λ c. one_of leading_codes c || not (leads (row_of c))) codes ≡ true
-unfolding one_of leads text same row_of rows
+leads_right : below (λ c. alike (eqb c 0 || (eqb c 44 || eqb c 45)) (leads (row_of c))) codes ≡ true
+unfolding leads text same row_of rows
 leads_right = refl
 
-goes_next : (code : ℕ) → code < codes → NoneOf leading_codes code → forbidden (row_of code) ≡ false → (n place : ℕ)
+pub follows_next : (code n place : ℕ) → code < codes → (code ≡ 0 → ⊥) → (code ≡ 44 → ⊥) → (code ≡ 45 → ⊥) → forbidden (row_of code) ≡ false
     → followers (action_of code) n place ≡ (place + 1) ∷ (place + 1) ∷ []
 unfolding action_of
-goes_next code coded none h =
-    at_code NextRow next_rows code (not-true _ (elsewhere leading_codes (λ k. not (leads (row_of k))) codes leads_right code coded none)) h
+follows_next code n place coded stop jump jumpc h = at_code NextRow next_rows code leads_not h n place
+  where
+    none : (eqb code 0 || (eqb code 44 || eqb code 45)) ≡ false
+    none = rw (ne_eqb code 0 stop, ne_eqb code 44 jump, ne_eqb code 45 jumpc) refl
 
--- ---- a test asked of all that may follow
+    leads_not : leads (row_of code) ≡ false
+    leads_not =
+        sym (alike_equal _ _ (at_below (λ c. alike (eqb c 0 || (eqb c 44 || eqb c 45)) (leads (row_of c))) codes leads_right code coded)) ∙ none
 
-module _ (test : ℕ → Bool) (code n place : ℕ) where
-  abbrev asked : Bool
-  asked = all test (followers (action_of code) n place)
-
-  -- the followers of the code that an arm is for
-  at_arm : (k : ℕ) (l : List ℕ) → code ≡ k → followers (action_of k) n place ≡ l → all test l ≡ asked
-  at_arm k l e q = ap (all test) (sym (ap (λ (x : ℕ). followers (action_of x) n place) e ∙ q))
-
-  -- a place twice is asked as once
-  twice : (x : ℕ) → test x ≡ all test (x ∷ x ∷ [])
-  unfolding all
-  twice x = both (test x)
-    where
-      both : (b : Bool) → b ≡ (b && (b && true))
-      both true = refl
-      both false = refl
-
-  pub asked_stop : code ≡ 0 → true ≡ asked
-  unfolding all
-  asked_stop e = at_arm 0 [] e (stop_followers n place)
-
-  pub asked_jump : code ≡ 44 → test n ≡ asked
-  asked_jump e = twice n ∙ at_arm 44 (n ∷ n ∷ []) e (jump_followers n place)
-
-  pub asked_way : code ≡ 45 → test (place + 1) ≡ false → false ≡ asked
-  unfolding all
-  asked_way e h = sym (ap (λ (b : Bool). b && (test n && true)) h) ∙ at_arm 45 ((place + 1) ∷ n ∷ []) e (jumpc_followers n place)
-
-  pub asked_ways : code ≡ 45 → test (place + 1) ≡ true → test n ≡ asked
-  unfolding all
-  asked_ways e h =
-      sym (and-true (test n)) ∙ sym (ap (λ (b : Bool). b && (test n && true)) h)
-      ∙ at_arm 45 ((place + 1) ∷ n ∷ []) e (jumpc_followers n place)
-
-  pub asked_on : code < codes → NoneOf leading_codes code → forbidden (row_of code) ≡ false → test (place + 1) ≡ asked
-  asked_on coded none h = twice (place + 1) ∙ ap (all test) (sym (goes_next code coded none h n place))
+pub ruleset followings = (follows_stop, follows_jump, follows_jumpc, follows_next)

@@ -1,5 +1,4 @@
 -- Laws of the depth list for the proofs of its functions.
-pub mod Within
 pub mod Codes
 pub mod Rules
-pub mod Answers
+pub mod Failing

@@ -1,54 +1,48 @@
 // The depth checker: whether a list of stack depths fits the program that it came with.
 #![tactic(auto)]
 
-ghost use Rattle.std.specs.Prelude.{◌≡◌, ◌≤◌, ◌<◌, length};
+ghost use Rattle.std.specs.Prelude.{◌≡◌, ◌≤◌, ◌<◌, length, Err};
 ghost use Rattle.rules.specs.Lists.{all};
 ghost use Rattle.rules.specs.Instructions.{row_of, action_of};
-ghost use Rattle.rules.specs.Table.{program, code_of};
-ghost use Rattle.rules.specs.DepthList.{followers, forbidden, allowed_at, listed, rule_of, rule, first_failing, check};
-ghost use Rattle.depths.specs.Judged.{Known, Judgeable};
+ghost use Rattle.rules.specs.Table.{code_of};
+ghost use Rattle.rules.specs.DepthList.{followers, forbidden, allowed_at, listed, rule_of, rule, check};
+ghost use Rattle.program.specs.Lent.{program_of};
+ghost use Rattle.depths.specs.Judged.{Known, Judgeable, failing};
 
-use rules::{Checked, DepthRefusal, codes, sizes};
+use program::Program;
+use rules::{DepthFault, DepthRefusal, codes, sizes};
 
 // Whether the instruction is forbidden in a program with a depth list.
-fn is_forbidden(code: usize) -> bool
-    ensures { result ≡ forbidden (row_of code) }
+#[tactic(auto, using(crate::proofs::Codes::forbidden_is))]
+fn is_forbidden(instruction: u64) -> bool
+    ensures { result ≡ forbidden (row_of (code_of instruction)) }
 {
-    match code {
-        codes::POPSP => true,
-        codes::JUMPIND => true,
-        codes::JSR => true,
-        codes::JSRIND => true,
-        _ => false,
-    }
+    matches!(
+        program::table::code_of(instruction),
+        codes::POPSP | codes::JUMPIND | codes::JSR | codes::JSRIND
+    )
 }
 
-// The first place with a forbidden instruction: the program's length where there is none.
-fn first_forbidden(table: &[u64], count: usize) -> usize
-    requires { count ≤ length table.now }
-    ensures { result ≡ first_failing (allowed_at (program table.now count)) count 0 }
+// The first place with a forbidden instruction, if any.
+fn first_forbidden(p: Program<'_>) -> Option<usize>
+    requires { p.length ≤ length p.table.now }
+    ensures { result ≡ failing (allowed_at (program_of p.entry)) p.entry.length }
 {
-    let mut place = 0;
-    while place < count {
-        if is_forbidden(program::table::code_of(table[place])) {
-            return place;
-        }
-        place += 1;
-    }
-    count
+    p.table[..p.length]
+        .iter()
+        .position(|instruction| is_forbidden(*instruction))
 }
 
 // Whether the place is one of the program's, which the list has the length of, and is listed with that depth.
+#[tactic(auto, unfolding(rules::specs::DepthList::listed))]
 fn is_listed(depths: &[u16], depth: usize, place: usize) -> bool
     ensures { result ≡ listed (length depths.now) depths.now depth place }
 {
-    if depths.len() <= place {
-        return false;
-    }
-    depths[place] as usize == depth
+    place < depths.len() && depths[place] as usize == depth
 }
 
 // Whether each place that may follow is listed with that depth.
+#[tactic(auto, using(crate::proofs::Codes::followings), unfolding(rules::specs::Lists::all))]
 fn are_listed(depths: &[u16], depth: usize, code: usize, operand: u32, place: usize) -> bool
     requires { Known code × (place < length depths.now) }
     ensures { result ≡ all (listed (length depths.now) depths.now depth) (followers (action_of code) operand place) }
@@ -57,16 +51,14 @@ fn are_listed(depths: &[u16], depth: usize, code: usize, operand: u32, place: us
         codes::STOP => true,
         codes::JUMP => is_listed(depths, depth, operand as usize),
         codes::JUMPC => {
-            if !is_listed(depths, depth, place + 1) {
-                return false;
-            }
-            is_listed(depths, depth, operand as usize)
+            is_listed(depths, depth, place + 1) && is_listed(depths, depth, operand as usize)
         }
         _ => is_listed(depths, depth, place + 1),
     }
 }
 
 // Whether a place with that depth passes its rule.
+#[tactic(auto, using(crate::proofs::Rules::rule_steps))]
 fn passes_rule(depths: &[u16], n: usize, instruction: u64, place: usize, depth: u16) -> bool
     requires { Known (code_of instruction) × (place < length depths.now) }
     ensures { result ≡ rule_of (length depths.now) n depths.now instruction place depth }
@@ -83,53 +75,51 @@ fn passes_rule(depths: &[u16], n: usize, instruction: u64, place: usize, depth: 
         return false;
     }
     let after = before - needs + moves.leaves as usize;
-    if n <= after {
-        return false;
-    }
-    are_listed(depths, after, code, operand, place)
+    after < n && are_listed(depths, after, code, operand, place)
 }
 
-// The first place whose rule fails: the program's length where none does.
-fn first_failing(table: &[u64], count: usize, n: usize, depths: &[u16]) -> usize
-    requires { Judgeable (program table.now count) depths.now }
-    ensures { result ≡ first_failing (rule (program table.now count) n depths.now) count 0 }
+// The first place whose rule fails, if any.
+fn first_failing(p: Program<'_>, n: usize, depths: &[u16]) -> Option<usize>
+    requires { Judgeable (program_of p) depths.now }
+    ensures { result ≡ failing (rule (program_of p.entry) n depths.now) p.entry.length }
 {
-    let mut place = 0;
-    while place < count {
-        if !passes_rule(depths, n, table[place], place, depths[place]) {
-            return place;
+    for place in 0..p.length {
+        if !passes_rule(depths, n, p.table[place], place, depths[place]) {
+            return Some(place);
         }
-        place += 1;
     }
-    count
+    None
+}
+
+// The answer to a list that is refused.
+fn refused(refusal: DepthRefusal, place: usize) -> Result<(), DepthFault>
+    ensures { result ≡ Err (record { refusal = refusal; place = place }) }
+{
+    Err(DepthFault { refusal, place })
 }
 
 // Judges the list for a machine of N cells. Nothing is written.
-pub fn check(table: &[u64], count: usize, n: usize, depths: &[u16]) -> Checked
-    ensures { result ≡ check (program table.now count) n depths.now }
+#[tactic(auto, unfolding(rules::specs::DepthList::check))]
+pub fn check(p: Program<'_>, n: usize, depths: &[u16]) -> Result<(), DepthFault>
+    ensures { result ≡ check (program_of p.entry) n depths.now }
 {
-    if !program::table::is_sound(table, count) {
-        return Checked::NotAccepted(DepthRefusal::UnsoundTable, 0);
+    if !p.is_sound() {
+        return refused(DepthRefusal::UnsoundTable, 0);
     }
-    if n < 1 {
-        return Checked::NotAccepted(DepthRefusal::OutsideCells, 0);
+    if n < 1 || sizes::MAX_CELLS < n {
+        return refused(DepthRefusal::OutsideCells, 0);
     }
-    if sizes::MAX_CELLS < n {
-        return Checked::NotAccepted(DepthRefusal::OutsideCells, 0);
+    if depths.len() != p.length {
+        return refused(DepthRefusal::ListLength, 0);
     }
-    if depths.len() != count {
-        return Checked::NotAccepted(DepthRefusal::ListLength, 0);
-    }
-    let forbidden = first_forbidden(table, count);
-    if forbidden < count {
-        return Checked::NotAccepted(DepthRefusal::ForbiddenInstruction, forbidden);
+    if let Some(place) = first_forbidden(p) {
+        return refused(DepthRefusal::ForbiddenInstruction, place);
     }
     if !is_listed(depths, 0, 0) {
-        return Checked::NotAccepted(DepthRefusal::RuleFailed, 0);
+        return refused(DepthRefusal::RuleFailed, 0);
     }
-    let failing = first_failing(table, count, n, depths);
-    if failing < count {
-        return Checked::NotAccepted(DepthRefusal::RuleFailed, failing);
+    if let Some(place) = first_failing(p, n, depths) {
+        return refused(DepthRefusal::RuleFailed, place);
     }
-    Checked::Accepted
+    Ok(())
 }

@@ -14,26 +14,22 @@ const DECIMAL: u64 = 10;
 
 const HEX: u32 = 16;
 
-// A number of 32 bits has at most ten decimal digits, so many after the first, and eight hex digits.
+// A number of 32 bits has at most ten decimal digits, so many after the first.
 const MORE_DIGITS: usize = 9;
 
-const HEX_DIGITS: usize = 8;
+// How many hex digits a number of 32 bits has, and a byte.
+pub const WORD_HEX: usize = 8;
 
-// A byte has two hex digits.
-const PAIR_DIGITS: usize = 2;
+pub const BYTE_HEX: usize = 2;
 
 // Writes a byte at the place `at` + `i`, where the slice has that place.
 pub fn put_byte(out: &mut [u8], at: usize, i: usize, b: u8)
     ensures { out.new ≡ set out.old (at + i) b }
 {
     let n = out.len();
-    if n <= at {
-        return;
+    if at < n && i < n - at {
+        out[at + i] = b;
     }
-    if n - at <= i {
-        return;
-    }
-    out[at + i] = b;
 }
 
 // Writes the last `k` + 1 decimal digits of `n`, the first at `at` + `i`, and tells the `i` after them.
@@ -41,17 +37,14 @@ fn put_digits(out: &mut [u8], at: usize, i: usize, n: u64, k: usize) -> usize
     requires { (i ≤ 1) × (k ≤ 9) }
     ensures { (result ≡ i + length (decimal k n)) × (out.new ≡ sets out.old (at + i) (decimal k n)) }
 {
-    if k == 0 {
-        put_byte(out, at, i, b'0' + (n % DECIMAL) as u8);
+    let last = b'0' + (n % DECIMAL) as u8;
+    if k == 0 || n < DECIMAL {
+        put_byte(out, at, i, last);
         return i + 1;
     }
-    if n < DECIMAL {
-        put_byte(out, at, i, b'0' + (n % DECIMAL) as u8);
-        return i + 1;
-    }
-    let p = put_digits(out, at, i, n / DECIMAL, k - 1);
-    put_byte(out, at, p, b'0' + (n % DECIMAL) as u8);
-    p + 1
+    let before = put_digits(out, at, i, n / DECIMAL, k - 1);
+    put_byte(out, at, before, last);
+    before + 1
 }
 
 // Writes `n` in decimal with no leading zeros: the last ten digits, which are all of a number of 32 bits.
@@ -78,47 +71,29 @@ fn hex_byte(digit: u32) -> u8
     ensures { result ≡ hex_byte digit }
 {
     if digit < 10 {
-        return b'0' + digit as u8;
+        b'0' + digit as u8
+    } else {
+        b'A' + (digit as u8 - 10)
     }
-    b'A' + (digit as u8 - 10)
 }
 
-// Writes the last `k` hex digits of `n` at `at`.
-fn put_hex_digits(out: &mut [u8], at: usize, n: u32, k: usize)
-    requires { k ≤ 8 }
-    ensures { out.new ≡ sets out.old at (hex k n) }
+// Writes the last `k` hex digits of `n`.
+pub fn put_hex(out: &mut [u8], at: usize, n: u32, k: usize) -> usize
+    ensures { Put out.old out.new at (hex k n) result }
 {
-    if k == 0 {
-        return;
+    if k > 0 {
+        let before = put_hex(out, at, n / HEX, k - 1);
+        put_byte(out, at, before, hex_byte(n % HEX));
     }
-    put_hex_digits(out, at, n / HEX, k - 1);
-    put_byte(out, at, k - 1, hex_byte(n % HEX));
-}
-
-// Writes 32 bits as eight hex digits.
-pub fn put_hex(out: &mut [u8], at: usize, n: u32) -> usize
-    ensures { Put out.old out.new at (hex 8 n) result }
-{
-    put_hex_digits(out, at, n, HEX_DIGITS);
-    HEX_DIGITS
-}
-
-// Writes a byte as two hex digits.
-pub fn put_hex_pair(out: &mut [u8], at: usize, b: u8) -> usize
-    ensures { Put out.old out.new at (hex 2 b) result }
-{
-    put_hex_digits(out, at, b as u32, PAIR_DIGITS);
-    PAIR_DIGITS
+    k
 }
 
 // Writes a text.
 pub fn put_text(out: &mut [u8], at: usize, text: &[u8]) -> usize
     ensures { Put out.old out.new at text.now result }
 {
-    let mut i = 0;
-    while i < text.len() {
-        put_byte(out, at, i, text[i]);
-        i += 1;
+    for (i, b) in text.iter().enumerate() {
+        put_byte(out, at, i, *b);
     }
-    i
+    text.len()
 }

@@ -3,51 +3,48 @@
 #![tactic(auto)]
 
 ghost use Rattle.std.specs.Prelude.{◌≡◌};
-ghost use Rattle.rules.specs.Table.{program};
 ghost use Rattle.rules.specs.State.{memory};
 ghost use Rattle.rules.specs.Dwell.{read_cell, dwell};
+ghost use Rattle.program.specs.Lent.{program_of};
 
-use rules::{Dwell, DwellRefusal, Registers, tags};
+use program::Program;
+use rules::{DwellRefusal, Registers, tags};
 
 mod tenths;
 
 // What cell 0 says: an INT is tenths, a FLOAT is seconds; 62 for another tag, 63 for a NaN.
-fn read_cell(tag: u8, bits: u32) -> Dwell
+#[tactic(auto, using(nearest::proofs::Equal::nan_read))]
+fn read_cell(tag: u8, bits: u32) -> Result<u32, DwellRefusal>
     ensures { result ≡ read_cell (record { bits = bits; tag = tag }) }
 {
-    if tag == tags::INT {
-        return Dwell::Tenths(tenths::of_int(bits));
+    match tag {
+        tags::INT => Ok(tenths::of_int(bits)),
+        tags::FLOAT if floats::is_nan(bits) => Err(DwellRefusal::NotANumber),
+        tags::FLOAT => Ok(tenths::of_seconds(bits)),
+        _ => Err(DwellRefusal::OtherTag),
     }
-    if tag != tags::FLOAT {
-        return Dwell::Unread(DwellRefusal::OtherTag);
-    }
-    if floats::is_nan(bits) {
-        return Dwell::Unread(DwellRefusal::NotANumber);
-    }
-    Dwell::Tenths(tenths::of_seconds(bits))
 }
 
 // Reads the dwell: 10 as a step judges it, then 60 where the machine is not halted, 61 where SP is 0, and then by cell 0.
+#[tactic(auto, using(rules::proofs::Dwells::first_cell), unfolding(rules::specs::Dwell::dwell))]
 pub fn dwell(
-    table: &[u64],
-    length: usize,
+    p: Program<'_>,
     r: Registers,
     bits: &[u32],
     tags: &[u8],
     history: &[u64],
     output: &[u8],
-) -> Dwell
-    ensures { result ≡ dwell (program table.now length) r (memory bits.now tags.now history.now output.now) }
+) -> Result<u32, DwellRefusal>
+    ensures { result ≡ dwell (program_of p.entry) r (memory bits.now tags.now history.now output.now) }
 {
-    let sound = state::is_sound(table, length, r, bits, tags, history, output);
-    if !sound {
-        return Dwell::Unread(DwellRefusal::StateBroken);
+    if !state::is_sound(p, r, bits, tags, history, output) {
+        return Err(DwellRefusal::StateBroken);
     }
     if r.halt != 1 {
-        return Dwell::Unread(DwellRefusal::NotHalted);
+        return Err(DwellRefusal::NotHalted);
     }
     if r.sp == 0 {
-        return Dwell::Unread(DwellRefusal::StackEmpty);
+        return Err(DwellRefusal::StackEmpty);
     }
     read_cell(tags[0], bits[0])
 }

@@ -21,30 +21,23 @@ const ONE_SECOND: u32 = 0x3f80_0000;
 const THIRTY_SECONDS: u32 = 0x41f0_0000;
 
 // The tenths of an INT: below 0 it is shorter than the shortest dwell too.
+#[tactic(auto, using(crate::proofs::Cases::int_cases))]
 pub(crate) fn of_int(b: u32) -> u32
     ensures { result ≡ held (signed b) }
 {
     if b >= words::LOWEST {
         return SHORTEST;
     }
-    if b < SHORTEST {
-        return SHORTEST;
-    }
-    if b > LONGEST {
-        return LONGEST;
-    }
-    b
+    b.clamp(SHORTEST, LONGEST)
 }
 
 // The tenths of a FLOAT that is no NaN: below 1 second, with a minus too, the shortest dwell; from 30 on, infinity too, the longest; between them ten times
 // its digits, less those behind the point.
+#[tactic(auto, using(crate::proofs::Cases::seconds_cases))]
 pub(crate) fn of_seconds(b: u32) -> u32
     ensures { result ≡ held_seconds b }
 {
-    if b >= SIGN {
-        return SHORTEST;
-    }
-    if b < ONE_SECOND {
+    if b < ONE_SECOND || b >= SIGN {
         return SHORTEST;
     }
     if b >= THIRTY_SECONDS {

@@ -2,7 +2,7 @@
 use Prim.Native.Nat.{ℕ, suc, ◌+◌, ◌-◌, ◌*◌, ◌/◌, ◌%◌, ◌^◌, ◌≤◌, ◌<◌}
 use mathlib.Core.Path.{◌≡◌, sym, ap, ap₂, ◌∙◌}
 use mathlib.Core.List.{List, ◌++◌, append_assoc}
-use native.Mathlib.Nat.{mod-lt, lt_of_lt_of_le, add-zero, div-one}
+use native.Mathlib.Nat.{mod-lt, mod-eq_of_lt, lt_of_lt_of_le, add-zero, div-one}
 use native.Mathlib.Omega.{arith}
 use lib.Arith.{digits_lt}
 use lib.ListN.{length, take, drop, get_or, set, length-drop}
@@ -108,10 +108,11 @@ put_halves l at a b v h =
 -- ---- what is read
 
 -- a byte's number
-pub byte_number : (xs : List ℕ) (k : ℕ) → k < length xs → value (part (k * 8) 8 (bits_of xs)) ≡ value (field 8 (get_or xs k 0))
-byte_number xs k h =
-    let b : List ℕ = field 8 (get_or xs k 0) in
-    ap (λ (i : ℕ). value (part i 8 (bits_of xs))) (sym (add-zero (k * 8))) ∙ ap value (byte_bits xs k 0 8 h (omega arith) ∙ take_all 8 b (omega (arith, field_length 8 (get_or xs k 0))))
+pub byte_number : (xs : List ℕ) (k : ℕ) → k < length xs → get_or xs k 0 < 2 ^ 8 → value (part (k * 8) 8 (bits_of xs)) ≡ get_or xs k 0
+byte_number xs k h most =
+    let b : ℕ = get_or xs k 0 in
+    ap (λ (i : ℕ). value (part i 8 (bits_of xs))) (sym (add-zero (k * 8))) ∙ ap value (byte_bits xs k 0 8 h (omega arith) ∙ take_all 8 (field 8 b) (omega (arith, field_length 8 b)))
+    ∙ value_field 8 b ∙ mod-eq_of_lt most
 
 -- n bits more, behind d bits
 pub part_more : (l : List ℕ) (at d n : ℕ) → at + d + n ≤ length l → value (part at (d + n) l) ≡ value (part at d l) * 2 ^ n + value (part (at + d) n l)

@@ -23,10 +23,7 @@ pub fn has_bits(image: &[u8], at: usize, width: usize) -> bool
 fn is_inside(image: &[u8], at: usize, width: usize) -> bool
     ensures { result ≡ inside (bits_of image.now) at width }
 {
-    if WIDEST < width {
-        return false;
-    }
-    has_bits(image, at, width)
+    width <= WIDEST && has_bits(image, at, width)
 }
 
 // Writes the low `width` bits of v at bit `at`, where they are inside.
@@ -42,10 +39,11 @@ pub fn put(out: &mut [u8], at: usize, width: usize, v: u64)
 pub fn get(image: &[u8], at: usize, width: usize) -> u64
     ensures { result ≡ read_at (bits_of image.now) at width }
 {
-    if !is_inside(image, at, width) {
-        return 0;
+    if is_inside(image, at, width) {
+        inside::get_inside(image, at / 8, at % 8, width)
+    } else {
+        0
     }
-    inside::get_inside(image, at / 8, at % 8, width)
 }
 
 // Whether what is left from bit `at` is less than a byte, and zero: no bit stands behind those to the next byte, and they are zero.
@@ -53,8 +51,5 @@ pub fn is_padded(image: &[u8], at: usize) -> bool
     ensures { result ≡ padded (drop at (bits_of image.now)) }
 {
     let padding = (8 - at % 8) % 8;
-    if has_bits(image, at, padding + 1) {
-        return false;
-    }
-    get(image, at, padding) == 0
+    !has_bits(image, at, padding + 1) && get(image, at, padding) == 0
 }

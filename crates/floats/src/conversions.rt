@@ -24,13 +24,11 @@ const LOWEST: u32 = 0xcf00_0000;
 fn size_of(t: u32) -> u32
     ensures { result ≡ unsigned_abs (signed t) }
 {
-    if t < words::LOWEST {
-        return t;
-    }
-    words::MINUS_ONE - t + 1
+    t.cast_signed().unsigned_abs()
 }
 
 // ITOF: the nearest FLOAT to an INT, which is its number over 1.
+#[tactic(auto, using(rules::proofs::Readings::sign_below), unfolding(rules::specs::Floats::int_to_f))]
 pub fn int_to_f(t: u32) -> u32
     ensures { result ≡ int_to_f t }
 {
@@ -38,16 +36,15 @@ pub fn int_to_f(t: u32) -> u32
 }
 
 // FTOI: whether the value, cut toward zero, is an INT. Without its sign it is below 2^31, or it is -2^31; a NaN and an infinity lie above.
+#[tactic(auto, using(nearest::proofs::Cut::int_below, nearest::proofs::Cut::int_by_lowest))]
 pub fn has_int(t: u32) -> bool
     ensures { result ≡ has_int t }
 {
-    if t % SIGN < ABOVE_HIGHEST {
-        return true;
-    }
-    t == LOWEST
+    t % SIGN < ABOVE_HIGHEST || t == LOWEST
 }
 
 // The whole part of a value that has an INT, without its sign.
+#[tactic(auto, using(nearest::proofs::Cut::whole_none, nearest::proofs::Cut::whole_part, nearest::proofs::Cut::whole_all, nearest::proofs::Cut::whole_fits))]
 fn whole_of(t: u32) -> u32
     requires { exponent t < 159 }
     ensures { result ≡ magnitude t / scale }
@@ -64,14 +61,17 @@ fn whole_of(t: u32) -> u32
 }
 
 // FTOI: the word of the INT that is left. Where there is none, which a step refuses, it is 0.
+#[tactic(auto, using(nearest::proofs::Cut::int_exponent, nearest::proofs::Cut::cut_plus, nearest::proofs::Cut::cut_minus))]
 pub fn cut(t: u32) -> u32
     ensures { result ≡ (if has_int t then word (cut t) else 0) }
 {
     if !has_int(t) {
         return 0;
     }
+    let whole = whole_of(t);
     if t < SIGN {
-        return whole_of(t);
+        whole
+    } else {
+        whole.wrapping_neg()
     }
-    std::num::wrapping_sub_u32(0, whole_of(t))
 }

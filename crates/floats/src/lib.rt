@@ -3,7 +3,7 @@
 // read one by one, as they were written.
 #![tactic(auto)]
 
-ghost use Rattle.std.specs.Prelude.{◌≡◌, from_bits, is_nan, to_bits};
+ghost use Rattle.std.specs.Prelude.{◌≡◌, true, false, from_bits, is_nan, to_bits};
 ghost use Rattle.std.specs.Float.{binary32};
 ghost use Rattle.rules.specs.Floats.{plus_f, minus_f, times_f, quotient_f, unordered, ordered_f, equal_f};
 ghost use Rattle.nearest.specs.Equal.{is_zero};
@@ -29,7 +29,7 @@ const NAN: u32 = 0x7fc0_0000;
 pub fn is_nan(b: u32) -> bool
     ensures { result ≡ is_nan (from_bits binary32 b) }
 {
-    std::num::wrapping_add_u32(b, b) > TWICE_INFINITY
+    b.wrapping_add(b) > TWICE_INFINITY
 }
 
 // Whether the bits are one of the two zeros.
@@ -40,6 +40,7 @@ fn is_zero(b: u32) -> bool
 }
 
 // The value that the bits stand for.
+#[tactic(auto, using(crate::proofs::Nan::no_nan, crate::proofs::Nan::is_nan_lem, crate::proofs::Nan::zero_by_zero))]
 fn value_of(b: u32) -> f32
     ensures { result ≡ from_bits binary32 b }
 {
@@ -51,60 +52,64 @@ fn value_of(b: u32) -> f32
 }
 
 // The bits of a value, #7FC00000 of a NaN.
+#[tactic(auto, using(crate::proofs::Nan::not_nan, crate::proofs::Nan::nan_bits_lem))]
 fn bits_of(x: f32) -> u32
     ensures { result ≡ to_bits binary32 x }
 {
-    if x != x { NAN } else { f32::to_bits(x) }
+    if x != x { NAN } else { x.to_bits() }
 }
 
 // Whether one of the two is a NaN: then a result is a NaN too, and CMPF has no answer.
+#[tactic(auto, unfolding(rules::specs::Floats::unordered))]
 pub fn unordered(b: u32, t: u32) -> bool
     ensures { result ≡ unordered b t }
 {
     is_nan(b) | is_nan(t)
 }
 
-// ADDF: the sum, rounded once.
-pub fn plus_f(b: u32, t: u32) -> u32
-    ensures { result ≡ plus_f b t }
+// The bits of what the operation makes of the two values, rounded once: #7FC00000 where one of them is a NaN.
+#[tactic(auto, using(crate::proofs::Nan::first_number, crate::proofs::Nan::second_number))]
+fn rounded<F: Fn(f32, f32) -> f32>(b: u32, t: u32, operation: F) -> u32
+    requires { F.IsAlwaysCallable operation }
+    ensures nan { unordered b t ≡ true → result ≡ NAN }
+    ensures number { unordered b t ≡ false → (r : _) × F.post operation (from_bits binary32 b) (from_bits binary32 t) r × (result ≡ to_bits binary32 r) }
 {
     if unordered(b, t) {
         return NAN;
     }
-    bits_of(f32::from_bits(b) + f32::from_bits(t))
+    bits_of(operation(f32::from_bits(b), f32::from_bits(t)))
+}
+
+// ADDF: the sum, rounded once.
+pub fn plus_f(b: u32, t: u32) -> u32
+    ensures { result ≡ plus_f b t }
+{
+    rounded(b, t, |x, y| x + y)
 }
 
 // SUBF: the difference, rounded once.
 pub fn minus_f(b: u32, t: u32) -> u32
     ensures { result ≡ minus_f b t }
 {
-    if unordered(b, t) {
-        return NAN;
-    }
-    bits_of(f32::from_bits(b) - f32::from_bits(t))
+    rounded(b, t, |x, y| x - y)
 }
 
 // TIMESF: the product, rounded once.
 pub fn times_f(b: u32, t: u32) -> u32
     ensures { result ≡ times_f b t }
 {
-    if unordered(b, t) {
-        return NAN;
-    }
-    bits_of(f32::from_bits(b) * f32::from_bits(t))
+    rounded(b, t, |x, y| x * y)
 }
 
 // DIVF: the quotient, rounded once.
 pub fn quotient_f(b: u32, t: u32) -> u32
     ensures { result ≡ quotient_f b t }
 {
-    if unordered(b, t) {
-        return NAN;
-    }
-    bits_of(f32::from_bits(b) / f32::from_bits(t))
+    rounded(b, t, |x, y| x / y)
 }
 
 // CMPF: CMP of the values. With a NaN, which a step refuses, it is 0.
+#[tactic(auto, unfolding(rules::specs::Floats::ordered_f))]
 pub fn ordered_f(b: u32, t: u32) -> u32
     ensures { result ≡ ordered_f b t }
 {
@@ -114,6 +119,7 @@ pub fn ordered_f(b: u32, t: u32) -> u32
 }
 
 // EQUAL of two FLOATs: equal bits are equal values but for a NaN, which is equal to nothing; of unlike bits only the two zeros are equal.
+#[tactic(auto, using(nearest::proofs::Equal::equal_itself, nearest::proofs::Equal::equal_unlike))]
 pub fn equal_f(b: u32, t: u32) -> bool
     ensures { result ≡ equal_f b t }
 {

@@ -17,6 +17,7 @@ const TWICE_STEPS: u64 = 0x100_0000;
 const POWER: u32 = 125;
 
 // x raised by a power of two, so that its highest bit is the last of 32.
+#[tactic(auto, using(nearest::proofs::Placed::raised_lo, nearest::proofs::Placed::raised_hi))]
 fn raised(x: u32) -> u64
     requires { 0 < x }
     ensures { (result ≡ x * 2 ^ count_leading_zeros 32 x) × ((2 ^ 31 ≤ result) × (result < 2 ^ 32)) }
@@ -31,6 +32,7 @@ fn closest(n: u64, u: u64) -> u64
 {
     let whole = n / u;
     let twice = n % u * 2;
+    // Stays: a match on the order of the two takes six machine instructions more for each rounding.
     if twice < u {
         return whole;
     }
@@ -49,6 +51,7 @@ fn placed(power: u32, steps: u64) -> u32
 }
 
 // The bits of a / c without its sign.
+#[tactic(auto, using(nearest::proofs::Closest::closest_most, nearest::proofs::Placed::leading_some))]
 fn magnitude_of(a: u32, c: u32) -> u32
     requires { (0 < a) × (0 < c) }
     ensures { (result < 2 ^ 31) × ((s : Bool) → sign_bit s + result ≡ nearest_f s a c) }

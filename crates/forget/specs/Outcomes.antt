@@ -2,7 +2,7 @@
 use Rattle.std.specs.Prelude.{ℕ, List}
 use Rattle.rules.specs.State.{memory}
 use Rattle.rules.specs.Forget.{Forgets}
-use Rattle.rules.specs.declared.Forgot.{Forgot}
+use Rattle.rules.specs.Answers.{Forgot}
 
 abbrev pub forgot : Forgot → List ℕ → List ℕ → List ℕ → List ℕ → Forgets
 forgot a bits tags history output = record { answer = a; memory = memory bits tags history output }

@@ -1,219 +1,175 @@
 -- A chain, read and its code written, one operator at a time: what is read of the whole is what is read on from where the loop stands. Assumes nothing.
-use Prim.Native.Nat.{ℕ, zero, suc, ◌+◌, ◌≤◌, ◌<◌, max}
-use mathlib.Core.Path.{◌≡◌, sym, ap, ap₂, ◌∙◌, subst}
-use mathlib.Core.Bool.{Bool, true, false}
+use Prim.Native.Nat.{ℕ, suc, ◌+◌, ◌-◌, ◌≤◌, ◌<◌, max}
+use mathlib.Core.Path.{◌≡◌, ap, ap₂, ◌∙◌, subst}
+use mathlib.Core.Bool.{true}
 use mathlib.Core.List.{List, [], ◌∷◌, ◌++◌, append_assoc}
 use native.Mathlib.Omega.{arith}
 use lib.ListN.{length, drop, length-append}
+use Rattle.std.specs.Prelude.{Ok, Err}
 use Rattle.rules.specs.Lists.{splice}
 use Rattle.rules.specs.Sizes.{max_program}
 use Rattle.rules.specs.Grammar as Grammar
-use Rattle.rules.specs.Grammar.{Tree, joined, Token, Reading, read, refused, affordable, is_product, operator, none, following, chain, operand}
+use Rattle.rules.specs.Grammar.{Tree, joined, Token, sign, Reading, read, refused, Reader, require, affordable, is_product, operator, none, following, chain, operand}
 use Rattle.rules.specs.Translate.{operation, code_for, cost, depth}
 use Rattle.rules.specs.declared.Operator.{Operator}
 use Rattle.rules.specs.declared.FormulaRefusal.{FormulaRefusal}
 use Rattle.rules.specs.declared.FormulaRefusal.TheVariants.{CostTooHigh}
-use Rattle.rules.proofs.Tests.{by_test}
-use Rattle.rules.proofs.Splice.{splice_beside}
-use Rattle.formula.specs.declared.scan.Next.{Next}
-use Rattle.formula.specs.declared.scan.Next.TheVariants.{Number, TooLarge, Name, Sign, Opening, Closing, Forbidden, End}
-use Rattle.formula.specs.declared.scan.Following.{Following as Sought}
-use Rattle.formula.specs.declared.scan.Following.TheVariants.{Found, Other}
+use Rattle.formula.specs.declared.parts.Cursor.{Cursor}
 use Rattle.formula.specs.declared.parts.Reached.{Reached}
-use Rattle.formula.specs.declared.parts.Part.{Part}
-use Rattle.formula.specs.declared.parts.Part.TheVariants.{Read, Unread}
-use Rattle.formula.specs.Scans.{tokens_from, Stands, these, following_by}
-use Rattle.formula.specs.Parts.{ReadTo, Reads, Start, side, level, joined_to, with_operation}
-use Rattle.formula.proofs.Costs.{code_length}
+use Rattle.formula.specs.declared.reading.Level.{Level}
+use Rattle.formula.specs.declared.reading.Level.TheVariants.{Sum, Product}
+use Rattle.formula.specs.Scans.{tokens_from}
+use Rattle.formula.specs.Parts.{Owing, ReadTo, reading_from, these, side, chain_of, joined_to, with_operation}
+use Rattle.formula.proofs.Costs.{code_length, code_beside}
 use Rattle.formula.proofs.Readings.{GoodReading, GoodReader, tokens_lettered, chained_good, deepest, operand_good}
-use Rattle.formula.proofs.Turns.{following_is, chain_ends, chain_dear, chain_refused, chain_more}
-
--- ---- what follows
-
--- whether one of these operators stands first
-abbrev pub Follows : List ℕ → (sums : Bool) → List Token → Sought → Type 0
-Follows f sums ts (Found o end) = following (these sums) ts ≡ operator o (tokens_from f end)
-Follows f sums ts Other = following (these sums) ts ≡ none
-
-pub stands_follows : (f : List ℕ) (sums : Bool) (ts : List Token) (x : Next) → Stands f ts x → Follows f sums ts (following_by sums x)
-stands_follows f sums ts (Number n end) e = ap (following (these sums)) e.0
-stands_follows f sums ts TooLarge e = ap (following (these sums)) e.first
-stands_follows f sums ts (Name k end) e = ap (following (these sums)) e.0
-stands_follows f sums ts (Sign o end) e =
-    by_test (these sums o) (λ t. rw t (ap (following (these sums)) e ∙ rw t)) (λ t. rw t (ap (following (these sums)) e ∙ rw t))
-stands_follows f sums ts (Opening end) e = ap (following (these sums)) e
-stands_follows f sums ts (Closing end) e = ap (following (these sums)) e
-stands_follows f sums ts Forbidden e = ap (following (these sums)) e.1
-stands_follows f sums ts End e = ap (following (these sums)) e
-
--- what was found of what stands next
-pub found_next : (f : List ℕ) (sums : Bool) (ts : List Token) (x : Next) (s : Sought) → Stands f ts x → s ≡ following_by sums x → Follows f sums ts s
-found_next f sums ts x s h e = subst (Follows f sums ts) (sym e) (stands_follows f sums ts x h)
+use Rattle.formula.proofs.Turns.{chain_ends}
+use Rattle.formula.proofs.Operands.{read_room}
 
 -- ---- tokens are used up
 
-abbrev most : Bool → ℕ → ℕ
-most true nesting = deepest nesting + 1
-most false nesting = deepest nesting
+abbrev most : Level → ℕ → ℕ
+most Sum nesting = deepest nesting + 1
+most Product nesting = deepest nesting
 
-side_good : (sums : Bool) (nesting : ℕ) → GoodReader (most sums nesting) (side sums (operand nesting))
-side_good true nesting = chained_good is_product (deepest nesting) (operand nesting) (operand_good nesting)
-side_good false nesting = operand_good nesting
+side_good : (level : Level) (nesting : ℕ) → GoodReader (most level nesting) (side level (operand nesting))
+side_good Sum nesting = chained_good is_product (deepest nesting) (operand nesting) (operand_good nesting)
+side_good Product nesting = operand_good nesting
 
 fewer : (m spent : ℕ) (ts rest : List Token) (x : Reading) (t : Tree) (n : ℕ) → GoodReading m spent ts x → x ≡ read t n rest → length rest < length ts
 fewer m spent ts rest x t n g e = let h = subst (GoodReading m spent ts) e g in h.shorter
 
-module _ (f : List ℕ) (sums : Bool) (nesting : ℕ) where
-  side_fewer : (spent at end : ℕ) (t : Tree) (n : ℕ) → side sums (operand nesting) spent (tokens_from f at) ≡ read t n (tokens_from f end)
-      → length (tokens_from f end) < length (tokens_from f at)
-  side_fewer spent at end t n e =
-      fewer (most sums nesting) spent (tokens_from f at) (tokens_from f end) (side sums (operand nesting) spent (tokens_from f at)) t n
-      (side_good sums nesting spent (tokens_from f at) (tokens_lettered (drop at f))) e
+-- how many tokens are left there
+abbrev pub left : List ℕ → ℕ → ℕ
+left f at = length (tokens_from f at)
 
-  -- ---- where the loop stands
+-- a side, and a whole chain
+abbrev pub side_at : Level → Cursor → Reader
+side_at level from = side level (operand from.nesting)
 
-  module _ (x : Reading) (before : List ℕ) (w h : ℕ) where
-    -- the tree so far, and what is read on from it
-    pub record Turning (table : List ℕ) (q : Reached) : Type 0 where
-      pub tree : Tree
-      pub turns : ℕ
-      pub same : x ≡ chain (these sums) (side sums (operand nesting)) turns tree (q.written + h) (tokens_from f q.at)
-      pub enough : length (tokens_from f q.at) ≤ turns
-      pub code : table ≡ splice before w (code_for tree)
-      pub count : q.written ≡ w + cost tree
-      pub deep : q.depth ≡ depth tree
-      pub fits : q.written + h ≤ max_program
+abbrev pub all_from : List ℕ → Level → Cursor → Reading
+all_from f level from = reading_from f (chain_of level (operand from.nesting)) from
 
-    abbrev pub Stood : List ℕ → Part → Type 0
-    Stood table (Read q) = Turning table q
-    Stood table (Unread e) = x ≡ refused e
+side_fewer : (f : List ℕ) (level : Level) (from : Cursor) (end : ℕ) (t : Tree) (n : ℕ)
+    → reading_from f (side_at level from) from ≡ read t n (tokens_from f end) → left f end < left f from.at
+side_fewer f level from end t n e =
+    let spent : ℕ = from.written + from.owed in
+    let ts : List Token = tokens_from f from.at in
+    fewer (most level from.nesting) spent ts (tokens_from f end) (side_at level from spent ts) t n
+    (side_good level from.nesting spent ts (tokens_lettered (drop from.at f))) e
 
--- the tokens that are left, one more where there is a tree
-abbrev pub left_over : List ℕ → Part → ℕ
-left_over f (Read q) = suc (length (tokens_from f q.at))
-left_over f (Unread e) = 0
+-- ---- where the loop stands
 
-module _ (f : List ℕ) (sums : Bool) (nesting : ℕ) (before : List ℕ) (w h : ℕ) where
-  -- the first side
-  pub stood_first : (at : ℕ) (table : List ℕ) (p : Part) → Reads f (side sums (operand nesting) (w + h) (tokens_from f at)) before table w h p
-      → Stood f sums nesting (level sums (operand nesting) (w + h) (tokens_from f at)) before w h table p
-  stood_first at table (Read q) r =
-      let ts = tokens_from f at in
-      let less = side_fewer f sums nesting (w + h) at q.at r.tree (q.written + h) r.reading in
+-- the tree so far, and what is read on from it
+pub record Turning (f : List ℕ) (level : Level) (before : List ℕ) (from : Cursor) (table : List ℕ) (q : Reached) : Type 0 where
+  pub tree : Tree
+  pub turns : ℕ
+  pub same : all_from f level from ≡ chain (these level) (side_at level from) turns tree (q.written + from.owed) (tokens_from f q.at)
+  pub enough : left f q.at ≤ turns
+  pub code : table ≡ splice before from.written (code_for tree)
+  pub count : q.written ≡ from.written + cost tree
+  pub deep : q.depth ≡ depth tree
+  pub fits : q.written + from.owed ≤ max_program
+
+-- at first it is one side
+pub turning_first : {f before table : List ℕ} {from : Cursor} {q : Reached} (level : Level) → ReadTo f (reading_from f (side_at level from) from) before table from q
+    → Turning f level before from table q
+turning_first {f} {before} {table} {from} {q} level r =
+    let less = side_fewer f level from q.at r.tree (q.written + from.owed) r.reading in
+    record {
+      tree = r.tree;
+      turns = left f from.at;
+      same = ap (Grammar.after (chain (these level) (side_at level from) (left f from.at))) r.reading;
+      enough = omega arith;
+      code = r.code;
+      count = r.count;
+      deep = r.deep;
+      fits = r.fits;
+    }
+
+module _ {f before table : List ℕ} {level : Level} {from : Cursor} {q : Reached} (g : Turning f level before from table q) where
+  abbrev on : ℕ → Tree → Reader
+  on turns t = chain (these level) (side_at level from) turns t
+
+  -- no operator follows
+  pub turning_ends : following (these level) (tokens_from f q.at) ≡ none → ReadTo f (all_from f level from) before table from q
+  turning_ends e =
       record {
-        tree = r.tree;
-        turns = length ts;
-        same = ap (Grammar.after (chain (these sums) (side sums (operand nesting)) (length ts))) r.reading;
-        enough = omega arith;
-        code = r.code;
-        count = r.count;
-        deep = r.deep;
-        fits = r.fits;
+        tree = g.tree;
+        reading = g.same ∙ chain_ends (these level) (side_at level from) g.tree (q.written + from.owed) (tokens_from f q.at) g.turns e;
+        code = g.code;
+        count = g.count;
+        deep = g.deep;
+        fits = g.fits;
       }
-  stood_first at table (Unread e) r = ap (Grammar.after (chain (these sums) (side sums (operand nesting)) (length (tokens_from f at)))) r
 
-  module _ (x : Reading) (table : List ℕ) (q : Reached) (g : Turning f sums nesting x before w h table q) where
-    -- no operator follows
-    pub stood_ends : following (these sums) (tokens_from f q.at) ≡ none → ReadTo f x before table w h q
-    stood_ends e =
-        record {
-          tree = g.tree;
-          reading = g.same ∙ chain_ends (these sums) (side sums (operand nesting)) g.tree (q.written + h) (tokens_from f q.at) g.turns e;
-          code = g.code;
-          count = g.count;
-          deep = g.deep;
-          fits = g.fits;
-        }
+  module _ (o : Operator) (end : ℕ) (stands : tokens_from f q.at ≡ sign o ∷ tokens_from f end) (is_one : these level o ≡ true) where
+    -- where its right side is read from
+    abbrev right : Cursor
+    right = record { at = end; written = q.written; owed = from.owed + 1; nesting = from.nesting }
 
-    module _ (o : Operator) (end : ℕ) (e : following (these sums) (tokens_from f q.at) ≡ operator o (tokens_from f end)) where
-      -- a token was there, so that a turn is left
-      behind : length (tokens_from f q.at) ≡ suc (length (tokens_from f end))
-      behind = ap length (following_is (these sums) (tokens_from f q.at) (tokens_from f end) o e)
+    -- a token was there, so that a turn is left
+    one_less : left f q.at ≡ suc (left f end)
+    one_less = ap length stands
 
-      pub stood_dear : affordable (q.written + h + 1) ≡ false → x ≡ refused CostTooHigh
-      stood_dear a = go g.turns g.same g.enough
-        where
-          go : (turns : ℕ) → x ≡ chain (these sums) (side sums (operand nesting)) turns g.tree (q.written + h) (tokens_from f q.at)
-              → length (tokens_from f q.at) ≤ turns → x ≡ refused CostTooHigh
-          go zero s l = absurd (let y : ⊥ = omega (arith, behind) in y)
-          go (suc turns) s l =
-              s ∙ chain_dear (these sums) (side sums (operand nesting)) g.tree (q.written + h) (tokens_from f q.at) o (tokens_from f end) e turns a
+    turning_on : all_from f level from
+        ≡ require (affordable (q.written + from.owed + 1)) CostTooHigh
+        (Grammar.after (λ t. on (g.turns - 1) (joined o g.tree t)) (reading_from f (side_at level from) right))
+    unfolding chain
+    turning_on =
+        let turn : g.turns ≡ suc (g.turns - 1) = omega (arith, g.enough, one_less) in
+        let spent : q.written + from.owed + 1 ≡ q.written + (from.owed + 1) = omega arith in
+        g.same ∙ ap₂ (λ (n : ℕ) (ts : List Token). on n g.tree (q.written + from.owed) ts) turn stands ∙ rw is_one
+        (ap
+        (λ (n : ℕ).
+        require (affordable (q.written + from.owed + 1)) CostTooHigh
+        (Grammar.after (λ t. on (g.turns - 1) (joined o g.tree t)) (side_at level from n (tokens_from f end))))
+        spent)
 
-      module _ (a : affordable (q.written + h + 1) ≡ true) (wrote : List ℕ) (start : Start before w h) where
-        owed_one : q.written + (h + 1) ≡ q.written + h + 1
-        owed_one = omega arith
+    pub turning_dear : {e : FormulaRefusal} → Owing (record right { owed = from.owed }) 1 (Err e) → all_from f level from ≡ refused e
+    turning_dear a = turning_on ∙ rw (a.0, a.1)
 
-        pub stood_refused : (c : FormulaRefusal) → side sums (operand nesting) (q.written + (h + 1)) (tokens_from f end) ≡ refused c → x ≡ refused c
-        stood_refused c r = go g.turns g.same g.enough
-          where
-            go : (turns : ℕ) → x ≡ chain (these sums) (side sums (operand nesting)) turns g.tree (q.written + h) (tokens_from f q.at)
-                → length (tokens_from f q.at) ≤ turns → x ≡ refused c
-            go zero s l = absurd (let y : ⊥ = omega (arith, behind) in y)
-            go (suc turns) s l =
-                s ∙ chain_refused (these sums) (side sums (operand nesting)) g.tree (q.written + h) (tokens_from f q.at) o (tokens_from f end) e turns a c
-                (ap (λ (n : ℕ). side sums (operand nesting) n (tokens_from f end)) (sym owed_one) ∙ r)
+    -- where one more may be owed
+    module _ {c : Cursor} (owing : Owing (record right { owed = from.owed }) 1 (Ok c)) where
+      pub turning_refused : {e : FormulaRefusal} → reading_from f (side_at level c) c ≡ refused e → all_from f level from ≡ refused e
+      turning_refused r = turning_on ∙ rw owing.0 (ap (Grammar.after (λ t. on (g.turns - 1) (joined o g.tree t))) (rw owing.1 at r))
 
-        -- what is read on, with the operator's tree as the left side
-        module _ (p : Reached) (r : ReadTo f (side sums (operand nesting) (q.written + (h + 1)) (tokens_from f end)) table wrote q.written (h + 1) p) where
-          counted : p.written + (h + 1) ≡ p.written + 1 + h
-          counted = omega arith
+      -- a turn of the loop, with the operator's tree as the left side
+      module _ {wrote : List ℕ} {p : Reached} (r : ReadTo f (reading_from f (side_at level c) c) table wrote c p) where
+        read_right : ReadTo f (reading_from f (side_at level from) right) table wrote right p
+        read_right = rw owing.1 at r
 
-          less : length (tokens_from f p.at) < length (tokens_from f end)
-          less = side_fewer f sums nesting (q.written + (h + 1)) end p.at r.tree (p.written + (h + 1)) r.reading
+        less : left f p.at < left f end
+        less = side_fewer f level right p.at read_right.tree (p.written + (from.owed + 1)) read_right.reading
 
-          read_on : (turns : ℕ) → x ≡ chain (these sums) (side sums (operand nesting)) (suc turns) g.tree (q.written + h) (tokens_from f q.at)
-              → x ≡ chain (these sums) (side sums (operand nesting)) turns (joined o g.tree r.tree) (p.written + 1 + h) (tokens_from f p.at)
-          read_on turns s =
-              s ∙ chain_more (these sums) (side sums (operand nesting)) g.tree (q.written + h) (tokens_from f q.at) o (tokens_from f end) e turns a
-              r.tree (p.written + (h + 1)) (tokens_from f p.at) (ap (λ (n : ℕ). side sums (operand nesting) n (tokens_from f end)) (sym owed_one) ∙ r.reading)
-              ∙ ap (λ (n : ℕ). chain (these sums) (side sums (operand nesting)) turns (joined o g.tree r.tree) n (tokens_from f p.at)) counted
+        pub turning_less : left f p.at < left f q.at
+        turning_less = omega (arith, less, one_less)
 
-          -- the left side's code, the right side's, and the operator
-          joined_code : splice wrote p.written (operation o ∷ []) ≡ splice before w (code_for (joined o g.tree r.tree))
-          unfolding code_for
-          joined_code =
-              let left = code_for g.tree in
-              let right = code_for r.tree in
-              let after-left : q.written ≡ w + length left = g.count ∙ ap (λ (n : ℕ). w + n) (sym (code_length g.tree)) in
-              let both : length (left ++ right) ≡ cost g.tree + cost r.tree =
-              length-append left right ∙ ap₂ (λ (m n : ℕ). m + n) (code_length g.tree) (code_length r.tree) in
-              let after_both : p.written ≡ w + length (left ++ right) = omega (arith, both, g.count, r.count) in
-              let two : wrote ≡ splice before w (left ++ right) =
-              r.code ∙ ap₂ (λ (l : List ℕ) (i : ℕ). splice l i right) g.code after-left
-              ∙ splice_beside before w left right (omega (arith, after-left, g.fits, start.places)) in
-              ap₂ (λ (l : List ℕ) (i : ℕ). splice l i (operation o ∷ [])) two after_both
-              ∙ splice_beside before w (left ++ right) (operation o ∷ []) (omega (arith, after_both, r.fits, start.places))
-              ∙ ap (splice before w) (append_assoc left right (operation o ∷ []))
+        pub turning_joined : length before ≡ max_program → Turning f level before from (with_operation wrote o p) (joined_to q p)
+        unfolding code_for cost depth
+        turning_joined room =
+            let r = read_right in
+            let spent : p.written + (from.owed + 1) ≡ p.written + 1 + from.owed = omega arith in
+            let two : wrote ≡ splice before from.written (code_for g.tree ++ code_for r.tree) =
+            r.code
+            ∙ code_beside before table (code_for g.tree) (code_for r.tree) from.written q.written g.code (omega (arith, g.count, code_length g.tree))
+            (omega (arith, room, r.fits, r.count, code_length r.tree)) in
+            record {
+              tree = joined o g.tree r.tree;
+              turns = g.turns - 1;
+              same =
+                  turning_on
+                  ∙ rw owing.0
+                  (ap (Grammar.after (λ t. on (g.turns - 1) (joined o g.tree t))) r.reading
+                  ∙ ap (λ (n : ℕ). on (g.turns - 1) (joined o g.tree r.tree) n (tokens_from f p.at)) spent);
+              enough = omega (arith, one_less, less, g.enough);
+              code =
+                  code_beside before wrote (code_for g.tree ++ code_for r.tree) (operation o ∷ []) from.written p.written two
+                  (omega (arith, g.count, r.count, code_length g.tree, code_length r.tree, length-append (code_for g.tree) (code_for r.tree)))
+                  (omega (arith, room, r.fits))
+                  ∙ ap (splice before from.written) (append_assoc (code_for g.tree) (code_for r.tree) (operation o ∷ []));
+              count = omega (arith, g.count, r.count);
+              deep = ap₂ (λ (m n : ℕ). max m (1 + n)) g.deep r.deep;
+              fits = omega (arith, r.fits);
+            }
 
-          pub stood_joined : Turning f sums nesting x before w h (splice wrote p.written (operation o ∷ []))
-              (record { at = p.at; written = p.written + 1; depth = max q.depth (1 + p.depth) })
-          unfolding cost depth
-          stood_joined = go g.turns g.same g.enough
-            where
-              go : (turns : ℕ) → x ≡ chain (these sums) (side sums (operand nesting)) turns g.tree (q.written + h) (tokens_from f q.at)
-                  → length (tokens_from f q.at) ≤ turns
-                  → Turning f sums nesting x before w h (splice wrote p.written (operation o ∷ []))
-                  (record { at = p.at; written = p.written + 1; depth = max q.depth (1 + p.depth) })
-              go zero s l = absurd (let y : ⊥ = omega (arith, behind) in y)
-              go (suc turns) s l =
-                  record {
-                    tree = joined o g.tree r.tree;
-                    turns = turns;
-                    same = read_on turns s;
-                    enough = omega (arith, behind, less);
-                    code = joined_code;
-                    count = omega (arith, g.count, r.count);
-                    deep = ap₂ (λ (m n : ℕ). max m (1 + n)) g.deep r.deep;
-                    fits = omega (arith, r.fits);
-                  }
-
-        -- a turn of the loop
-        pub stood_turn : (p : Part) → Reads f (side sums (operand nesting) (q.written + (h + 1)) (tokens_from f end)) table wrote q.written (h + 1) p
-            → Stood f sums nesting x before w h (with_operation wrote o p) (joined_to q.depth p)
-        stood_turn (Read p) r = stood_joined p r
-        stood_turn (Unread c) r = stood_refused c r
-
-        pub stood_less : (p : Part) → Reads f (side sums (operand nesting) (q.written + (h + 1)) (tokens_from f end)) table wrote q.written (h + 1) p
-            → left_over f (joined_to q.depth p) < left_over f (Read q)
-        stood_less (Read p) r = let l = less p r in omega (arith, l, behind)
-        stood_less (Unread c) r = omega arith
+pub ruleset turnings = (turning_first, turning_ends, turning_joined, read_room)

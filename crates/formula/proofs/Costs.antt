@@ -1,16 +1,18 @@
 -- The code of a tree: its length is the tree's cost, and it holds no more values than it has instructions; and the order of the call's refusals. Assumes nothing.
 use Prim.Native.Nat.{ℕ, ◌+◌, ◌≤◌}
-use mathlib.Core.Path.{◌≡◌, refl, ap, ◌∙◌}
+use mathlib.Core.Path.{◌≡◌, refl, ap, ap₂, ◌∙◌}
 use mathlib.Core.Bool.{true, false}
 use mathlib.Core.List.{List, [], ◌∷◌, ◌++◌}
 use native.Mathlib.Nat.{le-max_right, max-le}
 use native.Mathlib.Omega.{arith}
 use lib.Dec.{leb, eqb}
 use lib.ListN.{length, length-append}
+use Rattle.rules.specs.Lists.{splice}
 use Rattle.rules.specs.Sizes.{max_source, max_program}
 use Rattle.rules.specs.Grammar.{Tree, number, name, negative, joined, parse}
 use Rattle.rules.specs.Translate.{stop, operation, negation, code_for, instructions_for, cost, depth, no_translation, translation, translate}
 use Rattle.rules.specs.declared.FormulaRefusal.TheVariants.{TableLength, FormulaTooLong}
+use Rattle.rules.proofs.Splice.{splice_beside}
 
 -- ---- length and cost
 
@@ -29,6 +31,12 @@ code_length (joined o left right) =
 -- "STOP one"
 pub program_length : (t : Tree) → length (instructions_for t) ≡ cost t + 1
 program_length t = length-append (code_for t) (stop ∷ []) ∙ ap (λ (n : ℕ). n + 1) (code_length t)
+
+-- what is written where a code ends stands behind it
+pub code_beside : (before after code more : List ℕ) (w at : ℕ) → after ≡ splice before w code → at ≡ w + length code → at + length more ≤ length before
+    → splice after at more ≡ splice before w (code ++ more)
+code_beside before after code more w at e n h =
+    ap₂ (λ (l : List ℕ) (i : ℕ). splice l i more) e n ∙ splice_beside before w code more (omega arith)
 
 -- ---- depth
 

@@ -236,10 +236,6 @@ abbrev pub deepest : ℕ → ℕ
 deepest zero = 1
 deepest (suc nesting) = deepest nesting + 1 + 1
 
-deepest_some : (nesting : ℕ) → 1 ≤ deepest nesting
-deepest_some zero = omega arith
-deepest_some (suc nesting) = omega arith
-
 pub operand_good : (nesting : ℕ) → GoodReader (deepest nesting) (operand nesting)
 unfolding operand
 operand_good zero spent ts l = by_good 1 too_deep too_deep (omega arith) (λ k s r h. tt) (λ k s r h. tt) spent ts l

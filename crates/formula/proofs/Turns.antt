@@ -1,31 +1,17 @@
 -- A chain of operands, one operator at a time. Assumes nothing.
 use Prim.Native.Nat.{ℕ, zero, suc, ◌+◌, ◌≤◌, ◌<◌}
 use mathlib.Core.Path.{◌≡◌, refl, sym, ap, ◌∙◌}
-use mathlib.Core.Bool.{Bool, true, false, cond}
+use mathlib.Core.Bool.{Bool, true}
 use mathlib.Core.List.{List, [], ◌∷◌}
 use native.Mathlib.Omega.{arith}
 use lib.ListN.{length}
 use Rattle.rules.specs.Grammar.{Tree, joined, Token, digits, letter, sign, opening, closing, forbidden, Reading, read, refused, Reader, require, affordable, after, operator, none, following, chain}
 use Rattle.rules.specs.declared.Operator.{Operator}
-use Rattle.rules.specs.declared.FormulaRefusal.{FormulaRefusal}
 use Rattle.rules.specs.declared.FormulaRefusal.TheVariants.{CostTooHigh}
 use Rattle.rules.proofs.Tests.{by_test}
 use Rattle.formula.proofs.Readings.{Lettered, GoodReading, GoodReader}
 
 -- ---- a chain, one operator at a time
-
-pub following_is : (these : Operator → Bool) (ts rest : List Token) (o : Operator) → following these ts ≡ operator o rest → ts ≡ sign o ∷ rest
-following_is these [] rest o q = absurd (let z : ◌≡◌ {A = ℕ} 0 1 = cc in let y : ⊥ = omega arith in y)
-following_is these (digits n ∷ ts) rest o q = absurd (let z : ◌≡◌ {A = ℕ} 0 1 = cc in let y : ⊥ = omega arith in y)
-following_is these (letter k ∷ ts) rest o q = absurd (let z : ◌≡◌ {A = ℕ} 0 1 = cc in let y : ⊥ = omega arith in y)
-following_is these (sign u ∷ ts) rest o q = go (these u) q
-  where
-    go : (b : Bool) → cond b (operator u ts) none ≡ operator o rest → sign u ∷ ts ≡ sign o ∷ rest
-    go true q = cc
-    go false q = absurd (let z : ◌≡◌ {A = ℕ} 0 1 = cc in let y : ⊥ = omega arith in y)
-following_is these (opening ∷ ts) rest o q = absurd (let z : ◌≡◌ {A = ℕ} 0 1 = cc in let y : ⊥ = omega arith in y)
-following_is these (closing ∷ ts) rest o q = absurd (let z : ◌≡◌ {A = ℕ} 0 1 = cc in let y : ⊥ = omega arith in y)
-following_is these (forbidden ∷ ts) rest o q = absurd (let z : ◌≡◌ {A = ℕ} 0 1 = cc in let y : ⊥ = omega arith in y)
 
 module _ (these : Operator → Bool) (f : Reader) (left : Tree) (spent : ℕ) (ts : List Token) where
   -- no operator of these follows
@@ -35,16 +21,6 @@ module _ (these : Operator → Bool) (f : Reader) (left : Tree) (spent : ℕ) (t
   chain_ends (suc turns) q = rw q
 
   module _ (o : Operator) (rest : List Token) (q : following these ts ≡ operator o rest) (turns : ℕ) where
-    -- "28 this token's cost, with STOP, passes 1,024"
-    pub chain_dear : affordable (spent + 1) ≡ false → chain these f (suc turns) left spent ts ≡ refused CostTooHigh
-    unfolding chain
-    chain_dear a = rw (q, a)
-
-    pub chain_refused : affordable (spent + 1) ≡ true → (e : FormulaRefusal) → f (spent + 1) rest ≡ refused e
-        → chain these f (suc turns) left spent ts ≡ refused e
-    unfolding chain
-    chain_refused a e h = rw (q, a, h)
-
     pub chain_more : affordable (spent + 1) ≡ true → (right : Tree) (n : ℕ) (behind : List Token) → f (spent + 1) rest ≡ read right n behind
         → chain these f (suc turns) left spent ts ≡ chain these f turns (joined o left right) n behind
     unfolding chain

@@ -1,132 +1,121 @@
 -- How a formula is read and its code written: with `written` instructions in the table and `owed` that were read and do not stand there yet, STOP among them, what is
 -- read is what the rules read where `written + owed` is spent. Assumes nothing.
-use Rattle.std.specs.Prelude.{ℕ, ◌+◌, ◌≤◌, max, ◌≡◌, Bool, true, false, cond, List, [], ◌∷◌, length}
+use Rattle.std.specs.Prelude.{ℕ, suc, ◌+◌, ◌-◌, ◌≤◌, max, ◌≡◌, Bool, true, false, List, [], ◌∷◌, length, replicate, Result, Ok, Err}
 use Rattle.rules.specs.Lists.{splice}
 use Rattle.rules.specs.Sizes.{max_program}
-use Rattle.rules.specs.Table.{place_of}
-use Rattle.rules.specs.Grammar.{Tree, Token, Reading, read, refused, Reader, affordable, misplaced, is_product, chained, closed_by}
-use Rattle.rules.specs.Translate.{operation, negation, code_for, cost, depth}
+use Rattle.rules.specs.Grammar.{Tree, Token, Reading, read, refused, Reader, affordable, misplaced, is_sum, is_product, chained, closed_by, formula, unfit, parse}
+use Rattle.rules.specs.Translate.{operation, code_for, instructions_for, cost, depth, table_for}
 use Rattle.rules.specs.declared.Operator.{Operator}
-use Rattle.rules.specs.declared.FormulaRefusal.TheVariants.{CostTooHigh, NumberTooLarge}
-use Rattle.rules.specs.declared.Translated.{Translated}
-use Rattle.rules.specs.declared.Translated.TheVariants.{Sized, NotTranslated}
+use Rattle.rules.specs.declared.FormulaRefusal.{FormulaRefusal}
+use Rattle.rules.specs.declared.FormulaRefusal.TheVariants.{CostTooHigh, NestedTooDeep}
+use Rattle.rules.specs.Answers.{Formulated}
+use Rattle.formula.specs.declared.parts.Cursor.{Cursor}
 use Rattle.formula.specs.declared.parts.Reached.{Reached}
-use Rattle.formula.specs.declared.parts.Part.{Part}
-use Rattle.formula.specs.declared.parts.Part.TheVariants.{Read, Unread}
-use Rattle.formula.specs.declared.scan.Next.{Next}
-use Rattle.formula.specs.declared.scan.Next.TheVariants.{Number, TooLarge, Name, Sign, Opening, Closing, Forbidden, End}
-use Rattle.formula.specs.Scans.{tokens_from, misplaced_by, these}
+use Rattle.formula.specs.declared.reading.Level.{Level}
+use Rattle.formula.specs.declared.reading.Level.TheVariants.{Sum, Product}
+use Rattle.formula.specs.Scans.{tokens_from}
+
+-- a part of a formula: where it was read to, or its refusal
+abbrev pub Part : Type 0
+Part = Result Reached FormulaRefusal
+
+-- ---- where reading stands
+
+-- from where it may be read: there is room for what is owed
+pub record Start (table : List ℕ) (from : Cursor) : Type 0 where
+  pub places : length table ≡ max_program
+  pub some : 1 ≤ from.owed
+  pub fits : from.written + from.owed ≤ max_program
+
+-- inside a sign or a bracket
+abbrev pub Inner : Cursor → (end : ℕ) → Result Cursor FormulaRefusal → Type 0
+Inner from end (Ok c) = (from.nesting ≡ suc (from.nesting - 1)) × (c ≡ record from { at = end; nesting = from.nesting - 1 })
+Inner from end (Err e) = (from.nesting ≡ 0) × (e ≡ NestedTooDeep)
+
+-- with more owed
+abbrev pub Owing : Cursor → (count : ℕ) → Result Cursor FormulaRefusal → Type 0
+Owing from count (Ok c) = (affordable (from.written + from.owed + count) ≡ true) × (c ≡ record from { owed = from.owed + count })
+Owing from count (Err e) = (affordable (from.written + from.owed + count) ≡ false) × (e ≡ CostTooHigh)
 
 -- ---- what is read
 
 -- the tree that was read: its code is written, and the tokens that are left are those from the place that was reached
-pub record ReadTo (f : List ℕ) (x : Reading) (before after : List ℕ) (written owed : ℕ) (q : Reached) : Type 0 where
+pub record ReadTo (f : List ℕ) (x : Reading) (before after : List ℕ) (from : Cursor) (q : Reached) : Type 0 where
   pub tree : Tree
-  pub reading : x ≡ read tree (q.written + owed) (tokens_from f q.at)
-  pub code : after ≡ splice before written (code_for tree)
-  pub count : q.written ≡ written + cost tree
+  pub reading : x ≡ read tree (q.written + from.owed) (tokens_from f q.at)
+  pub code : after ≡ splice before from.written (code_for tree)
+  pub count : q.written ≡ from.written + cost tree
   pub deep : q.depth ≡ depth tree
-  pub fits : q.written + owed ≤ max_program
+  pub fits : q.written + from.owed ≤ max_program
 
-abbrev pub Reads : List ℕ → Reading → (before after : List ℕ) → (written owed : ℕ) → Part → Type 0
-Reads f x before after written owed (Read q) = ReadTo f x before after written owed q
-Reads f x before after written owed (Unread e) = x ≡ refused e
+-- what a reader reads from there
+abbrev pub reading_from : List ℕ → Reader → Cursor → Reading
+reading_from f reads from = reads (from.written + from.owed) (tokens_from f from.at)
 
--- from where it may be read: there is room for what is owed
-pub record Start (table : List ℕ) (written owed : ℕ) : Type 0 where
-  pub places : length table ≡ max_program
-  pub some : 1 ≤ owed
-  pub fits : written + owed ≤ max_program
+abbrev pub Reads : List ℕ → Reader → (before after : List ℕ) → Cursor → Part → Type 0
+Reads f reads before after from (Ok q) = ReadTo f (reading_from f reads from) before after from q
+Reads f reads before after from (Err e) = reading_from f reads from ≡ refused e
 
--- one side of an operator of a sum, or of a product; and all that the operators join
-abbrev pub side : (sums : Bool) → Reader → Reader
-side true operands = chained is_product operands
-side false operands = operands
+-- the operators of a level
+abbrev pub these : Level → Operator → Bool
+these Sum o = is_sum o
+these Product o = is_product o
 
-abbrev pub level : (sums : Bool) → Reader → Reader
-level sums operands = chained (these sums) (side sums operands)
+-- one side of an operator of the level; and all that its operators join
+abbrev pub side : Level → Reader → Reader
+side Sum operands = chained is_product operands
+side Product operands = operands
+
+abbrev pub chain_of : Level → Reader → Reader
+chain_of level operands = chained (these level) (side level operands)
 
 -- ---- what is written
 
--- a part, where it was read, leaves room for n instructions
+-- a part leaves room for n instructions
 pub record Leaves (table : List ℕ) (q : Reached) (n : ℕ) : Type 0 where
   pub places : length table ≡ max_program
   pub fits : q.written + n ≤ max_program
   pub shallow : q.depth ≤ max_program
 
-abbrev pub Room : List ℕ → Part → ℕ → Type 0
-Room table (Read q) n = Leaves table q n
-Room table (Unread e) n = Unit
-
--- a number or a name
-abbrev pub pushed : (end written owed : ℕ) → Part
-pushed end written owed = cond (affordable (written + owed + 1)) (Read (record { at = end; written = written + 1; depth = 1 })) (Unread CostTooHigh)
-
-abbrev pub with_pushed : List ℕ → (code operand written owed : ℕ) → List ℕ
-with_pushed table code operand written owed = cond (affordable (written + owed + 1)) (splice table written (place_of code operand ∷ [])) table
-
--- an operand that opens nothing, by what stands next
-abbrev pub leaf_of : Next → (written owed : ℕ) → Part
-leaf_of (Number n end) written owed = pushed end written owed
-leaf_of TooLarge written owed = Unread NumberTooLarge
-leaf_of (Name k end) written owed = pushed end written owed
-leaf_of (Sign o end) written owed = Unread (misplaced_by (Sign o end))
-leaf_of (Opening end) written owed = Unread (misplaced_by (Opening end))
-leaf_of (Closing end) written owed = Unread (misplaced_by (Closing end))
-leaf_of Forbidden written owed = Unread (misplaced_by Forbidden)
-leaf_of End written owed = Unread (misplaced_by End)
-
-abbrev pub with_leaf : List ℕ → Next → (written owed : ℕ) → List ℕ
-with_leaf table (Number n end) written owed = with_pushed table 1 n written owed
-with_leaf table TooLarge written owed = table
-with_leaf table (Name k end) written owed = with_pushed table 42 k written owed
-with_leaf table (Sign o end) written owed = table
-with_leaf table (Opening end) written owed = table
-with_leaf table (Closing end) written owed = table
-with_leaf table Forbidden written owed = table
-with_leaf table End written owed = table
+-- a number or a name, whose token ends there
+abbrev pub Pushed : (before after : List ℕ) → (place end : ℕ) → Cursor → Part → Type 0
+Pushed before after place end from (Ok q) =
+    (affordable (from.written + from.owed + 1) ≡ true) × (q ≡ record { at = end; written = from.written + 1; depth = 1 })
+    × (after ≡ splice before from.written (place ∷ []))
+Pushed before after place end from (Err e) = (affordable (from.written + from.owed + 1) ≡ false) × (e ≡ CostTooHigh) × (after ≡ before)
 
 -- unary minus behind its operand
-abbrev pub negated_to : Part → Part
-negated_to (Read q) = Read (record { at = q.at; written = q.written + 2; depth = max q.depth 2 })
-negated_to (Unread e) = Unread e
-
-abbrev pub with_negation : List ℕ → Part → List ℕ
-with_negation table (Read q) = splice table q.written negation
-with_negation table (Unread e) = table
+abbrev pub negated_to : Reached → Reached
+negated_to q = record { at = q.at; written = q.written + 2; depth = max q.depth 2 }
 
 -- an operator behind its right side, with the depth of the left one
-abbrev pub joined_to : (left : ℕ) → Part → Part
-joined_to left (Read q) = Read (record { at = q.at; written = q.written + 1; depth = max left (1 + q.depth) })
-joined_to left (Unread e) = Unread e
+abbrev pub joined_to : (left right : Reached) → Reached
+joined_to left right = record { at = right.at; written = right.written + 1; depth = max left.depth (1 + right.depth) }
 
-abbrev pub with_operation : List ℕ → Operator → Part → List ℕ
-with_operation table o (Read q) = splice table q.written (operation o ∷ [])
-with_operation table o (Unread e) = table
+abbrev pub with_operation : List ℕ → Operator → Reached → List ℕ
+with_operation table o q = splice table q.written (operation o ∷ [])
 
 -- ---- what stands behind it
 
 -- the closing bracket behind a sum
-abbrev pub ClosedAt : List ℕ → Reached → Part → Type 0
-ClosedAt f q (Read p) =
+abbrev pub Closed : List ℕ → Reached → Part → Type 0
+Closed f q (Ok p) =
     (p.written ≡ q.written) × (p.depth ≡ q.depth)
     × ((t : Tree) (spent : ℕ) → closed_by t spent (tokens_from f q.at) ≡ read t spent (tokens_from f p.at))
-ClosedAt f q (Unread e) = (t : Tree) (spent : ℕ) → closed_by t spent (tokens_from f q.at) ≡ refused e
-
-abbrev pub Closed : List ℕ → Part → Part → Type 0
-Closed f (Read q) r = ClosedAt f q r
-Closed f (Unread e) r = r ≡ Unread e
-
--- there is room for STOP
-abbrev pub Stoppable : Part → Type 0
-Stoppable (Read q) = q.written + 1 ≤ max_program
-Stoppable (Unread e) = Unit
+Closed f q (Err e) = (t : Tree) (spent : ℕ) → closed_by t spent (tokens_from f q.at) ≡ refused e
 
 -- the end behind a sum: the answer, STOP among the instructions
-abbrev pub EndedAt : List ℕ → Reached → Translated → Type 0
-EndedAt f q (Sized n d) = (n ≡ q.written + 1) × (d ≡ q.depth) × (tokens_from f q.at ≡ [])
-EndedAt f q (NotTranslated e) = (k : Token) × (ts : List Token) × (tokens_from f q.at ≡ k ∷ ts) × (e ≡ misplaced (k ∷ ts))
+abbrev pub Ended : List ℕ → Reached → Formulated → Type 0
+Ended f q (Ok p) = (p.length ≡ q.written + 1) × (p.depth ≡ q.depth) × (tokens_from f q.at ≡ [])
+Ended f q (Err e) = (k : Token) × (ts : List Token) × (tokens_from f q.at ≡ k ∷ ts) × (e ≡ misplaced (k ∷ ts))
 
-abbrev pub Ended : List ℕ → Part → Translated → Type 0
-Ended f (Read q) r = EndedAt f q r
-Ended f (Unread e) r = r ≡ NotTranslated e
+-- ---- a whole formula
+
+-- a table of zeros
+abbrev pub blank : List ℕ
+blank = replicate max_program 0
+
+-- its program stands in the table, or it is refused
+abbrev pub Whole : List ℕ → (after : List ℕ) → Formulated → Type 0
+Whole f after (Ok p) = (t : Tree) × (parse f ≡ formula t) × (p.length ≡ length (instructions_for t)) × (p.depth ≡ depth t) × (after ≡ table_for t)
+Whole f after (Err e) = parse f ≡ unfit e

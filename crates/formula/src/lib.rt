@@ -2,7 +2,8 @@
 // signs with the remaining nesting falling. The code of what is read is written at once, so that no tree is held.
 #![tactic(auto)]
 
-use parts::Part;
+use parts::{Cursor, Reached};
+use reading::Level;
 use rules::{FormulaRefusal, Translated, sizes};
 use scan::Next;
 
@@ -10,56 +11,58 @@ mod parts;
 mod reading;
 mod scan;
 
-ghost use Rattle.std.specs.Prelude.{◌≡◌};
+ghost use Rattle.std.specs.Prelude.{◌≡◌, ◌+◌, ◌≤◌};
+ghost use Rattle.rules.specs.Sizes.{max_program};
 ghost use Rattle.rules.specs.Translate.{translate};
-ghost use Rattle.formula.specs.Parts.{Stoppable, Ended};
+ghost use Rattle.formula.specs.Parts.{Ended, Whole, blank};
 
-// Before anything is read STOP is owed.
-const STOP_OWED: usize = 1;
+// Where a formula is read from: nothing is written yet, and STOP is owed.
+const START: Cursor = Cursor {
+    at: 0,
+    written: 0,
+    owed: 1,
+    nesting: sizes::MAX_NESTING,
+};
 
 // The end behind a sum: nothing else may stand there. The answer, with STOP counted.
-fn end(formula: &[u8], sum: Part) -> Translated
-    requires { Stoppable sum }
+fn end(formula: &[u8], sum: Reached) -> Result<Translated, FormulaRefusal>
+    requires { sum.written + 1 ≤ max_program }
     ensures { Ended formula.now sum result }
 {
-    match sum {
-        Part::Unread(e) => Translated::NotTranslated(e),
-        Part::Read(reached) => {
-            let written = reached.written;
-            let depth = reached.depth;
-            let next = scan::next_token(formula, reached.at);
-            match next {
-                Next::End => Translated::Sized(written + 1, depth),
-                other => Translated::NotTranslated(scan::misplaced(other)),
-            }
-        }
+    match scan::next_token(formula, sum.at) {
+        Next::End => Ok(Translated {
+            length: sum.written + 1,
+            depth: sum.depth,
+        }),
+        other => Err(scan::misplaced(other)),
     }
 }
 
+// The program of a formula, over a table of zeros: STOP is a place of zeros.
+#[tactic(auto, using(crate::proofs::Whole::whole_read))]
+fn read_whole(formula: &[u8], table: &mut [u64]) -> Result<Translated, FormulaRefusal>
+    requires { table.old ≡ blank }
+    ensures { Whole formula.now table.new result }
+{
+    let sum = reading::chain(formula, table, START, Level::Sum)?;
+    end(formula, sum)
+}
+
 // Translates a formula into a table: the program's length and its depth, or the first refusal from the left. A place that is not written is zero, and so is STOP.
-pub fn translate(formula: &[u8], table: &mut [u64]) -> Translated
+#[tactic(auto, unfolding(rules::specs::Translate::translate))]
+pub fn translate(formula: &[u8], table: &mut [u64]) -> Result<Translated, FormulaRefusal>
     ensures { (result ≡ (translate formula.now table.old).answer) × (table.new ≡ (translate formula.now table.old).table) }
 {
     if table.len() != sizes::MAX_PROGRAM {
-        return Translated::NotTranslated(FormulaRefusal::TableLength);
+        return Err(FormulaRefusal::TableLength);
     }
-    lent::clear_places(table);
+    table.fill(0);
     if formula.len() > sizes::MAX_SOURCE {
-        return Translated::NotTranslated(FormulaRefusal::FormulaTooLong);
+        return Err(FormulaRefusal::FormulaTooLong);
     }
-    let sum = reading::chain(
-        formula,
-        table,
-        0,
-        0,
-        STOP_OWED,
-        sizes::MAX_NESTING,
-        reading::SUM,
-    );
-    let answer = end(formula, sum);
-    match answer {
-        Translated::NotTranslated(_) => lent::clear_places(table),
-        Translated::Sized(_, _) => {}
+    let answer = read_whole(formula, table);
+    if answer.is_err() {
+        table.fill(0);
     }
     answer
 }

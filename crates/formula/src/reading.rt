@@ -1,84 +1,67 @@
-// The grammar, by recursion: operand = number | name | - operand | ( sum ), product = operand { ( * | / ) operand }, sum = product { ( + | - ) product }. Behind a
-// minus sign and behind an opening bracket the nesting that is left is one less. `written` counts the instructions that stand in the table, and `owed` those that
-// were read and do not stand there yet: STOP, those of open minus signs, and operators whose right side is being read.
+// The grammar, by recursion: operand = number | name | - operand | ( sum ), product = operand { ( * | / ) operand }, sum = product { ( + | - ) product }.
 ghost use Rattle.std.specs.Prelude.{◌≡◌, ◌+◌};
 ghost use Rattle.rules.specs.Grammar.{operand};
-ghost use Rattle.formula.specs.Scans.{tokens_from};
-ghost use Rattle.formula.specs.Parts.{Start, Reads, side, level, Closed};
+ghost use Rattle.formula.specs.Parts.{Start, Reads, these, side, chain_of, Closed};
 
-use crate::parts::{Part, Reached};
-use crate::scan::{Following, Next, Opened};
+use crate::parts::{Cursor, NEGATION, Reached};
+use crate::scan::Next;
 use crate::{parts, scan};
-use rules::{FormulaRefusal, sizes};
+use rules::{FormulaRefusal, Operator, codes};
 
 // The two levels of a chain: + and - join products, * and / join operands.
-pub(crate) const SUM: bool = true;
+#[derive(Clone, Copy)]
+pub(crate) enum Level {
+    Sum,
+    Product,
+}
 
-const PRODUCT: bool = false;
+impl Level {
+    // Whether an operator is one of the level's.
+    fn has(self, operator: Operator) -> bool
+        ensures { result ≡ these self operator }
+    {
+        match operator {
+            Operator::Add | Operator::Subtract => matches!(self, Level::Sum),
+            Operator::Multiply | Operator::Divide => matches!(self, Level::Product),
+        }
+    }
+}
 
 // The closing bracket behind a sum.
-fn close(formula: &[u8], sum: Part) -> Part
+fn close(formula: &[u8], sum: Reached) -> Result<Reached, FormulaRefusal>
     ensures { Closed formula.now sum result }
 {
-    match sum {
-        Part::Unread(e) => Part::Unread(e),
-        Part::Read(reached) => {
-            let written = reached.written;
-            let depth = reached.depth;
-            let next = scan::next_token(formula, reached.at);
-            match next {
-                Next::Closing(end) => Part::Read(Reached {
-                    at: end,
-                    written,
-                    depth,
-                }),
-                other => Part::Unread(scan::misplaced(other)),
-            }
-        }
+    match scan::next_token(formula, sum.at) {
+        Next::Closing(end) => Ok(Reached { at: end, ..sum }),
+        other => Err(scan::misplaced(other)),
     }
 }
 
 // An operand: a number, a name, a minus sign and an operand, or a sum in brackets.
 #[cycle(chain_operand_side)]
-fn operand(
-    formula: &[u8],
-    table: &mut [u64],
-    at: usize,
-    written: usize,
-    owed: usize,
-    nesting: usize,
-) -> Part
-    requires { Start table.old written owed }
-    ensures { Reads formula.now (operand nesting (written + owed) (tokens_from formula.now at)) table.old table.new written owed result }
+#[tactic(auto, using(crate::proofs::Operands::operands))]
+fn operand(formula: &[u8], table: &mut [u64], from: Cursor) -> Result<Reached, FormulaRefusal>
+    requires { Start table.old from }
+    ensures { Reads formula.now (operand from.nesting) table.old table.new from result }
 {
-    let next = scan::next_token(formula, at);
-    let opened = scan::opening_of(next);
-    match opened {
-        Opened::Neither => parts::leaf(table, next, written, owed),
-        Opened::Minus(end) => {
-            if nesting == 0 {
-                return Part::Unread(FormulaRefusal::NestedTooDeep);
-            }
-            if written + owed + parts::NEGATION > sizes::MAX_PROGRAM {
-                return Part::Unread(FormulaRefusal::CostTooHigh);
-            }
-            let inner = operand(
-                formula,
-                table,
-                end,
-                written,
-                owed + parts::NEGATION,
-                nesting - 1,
-            );
-            parts::negate(table, inner)
+    match scan::next_token(formula, from.at) {
+        Next::Number { value, end } => {
+            parts::push(table, parts::place(codes::PUSHIMM, value), end, from)
         }
-        Opened::Bracket(end) => {
-            if nesting == 0 {
-                return Part::Unread(FormulaRefusal::NestedTooDeep);
-            }
-            let sum = chain(formula, table, end, written, owed, nesting - 1, SUM);
+        Next::TooLarge => Err(FormulaRefusal::NumberTooLarge),
+        Next::Name { cell, end } => {
+            parts::push(table, parts::place(codes::PUSHOFF, cell), end, from)
+        }
+        Next::Sign(Operator::Subtract, end) => {
+            let behind = from.inner(end)?.owing(NEGATION)?;
+            let negated = operand(formula, table, behind)?;
+            Ok(parts::negate(table, negated))
+        }
+        Next::Opening(end) => {
+            let sum = chain(formula, table, from.inner(end)?, Level::Sum)?;
             close(formula, sum)
         }
+        other => Err(scan::misplaced(other)),
     }
 }
 
@@ -87,54 +70,41 @@ fn operand(
 fn side(
     formula: &[u8],
     table: &mut [u64],
-    at: usize,
-    written: usize,
-    owed: usize,
-    nesting: usize,
-    sums: bool,
-) -> Part
-    requires { Start table.old written owed }
-    ensures { Reads formula.now (side sums (operand nesting) (written + owed) (tokens_from formula.now at)) table.old table.new written owed result }
+    from: Cursor,
+    level: Level,
+) -> Result<Reached, FormulaRefusal>
+    requires { Start table.old from }
+    ensures { Reads formula.now (side level (operand from.nesting)) table.old table.new from result }
 {
-    if sums {
-        return chain(formula, table, at, written, owed, nesting, PRODUCT);
+    match level {
+        Level::Sum => chain(formula, table, from, Level::Product),
+        Level::Product => operand(formula, table, from),
     }
-    operand(formula, table, at, written, owed, nesting)
 }
 
 // A sum, or else a product: all that its operators join, from the left.
 #[cycle(chain_operand_side)]
+#[tactic(auto, using(crate::proofs::Chains::turnings))]
 pub(crate) fn chain(
     formula: &[u8],
     table: &mut [u64],
-    at: usize,
-    written: usize,
-    owed: usize,
-    nesting: usize,
-    sums: bool,
-) -> Part
-    requires { Start table.old written owed }
-    ensures { Reads formula.now (level sums (operand nesting) (written + owed) (tokens_from formula.now at)) table.old table.new written owed result }
+    from: Cursor,
+    level: Level,
+) -> Result<Reached, FormulaRefusal>
+    requires { Start table.old from }
+    ensures { Reads formula.now (chain_of level (operand from.nesting)) table.old table.new from result }
 {
-    let mut left = side(formula, table, at, written, owed, nesting, sums);
-    loop {
-        match left {
-            Part::Unread(e) => return Part::Unread(e),
-            Part::Read(reached) => {
-                let n = reached.written;
-                let next = scan::next_token(formula, reached.at);
-                let following = scan::operator_of(next, sums);
-                match following {
-                    Following::Other => return Part::Read(reached),
-                    Following::Found(operator, end) => {
-                        if n + owed >= sizes::MAX_PROGRAM {
-                            return Part::Unread(FormulaRefusal::CostTooHigh);
-                        }
-                        let right = side(formula, table, end, n, owed + 1, nesting, sums);
-                        left = parts::join(table, operator, reached.depth, right);
-                    }
-                }
-            }
-        }
+    let mut left = side(formula, table, from, level)?;
+    while let Next::Sign(operator, end) = scan::next_token(formula, left.at)
+        && level.has(operator)
+    {
+        let behind = Cursor {
+            at: end,
+            written: left.written,
+            ..from
+        };
+        let right = side(formula, table, behind.owing(1)?, level)?;
+        left = parts::join(table, operator, left, right);
     }
+    Ok(left)
 }

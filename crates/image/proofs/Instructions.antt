@@ -1,19 +1,18 @@
 -- An instruction in an image: as one number, and no longer than the longest. Assumes nothing.
-use Prim.Native.Nat.{ℕ, ◌+◌, ◌*◌, ◌%◌, ◌^◌, ◌≤◌, ◌<◌}
+use Rattle.std.specs.Prelude.{Ok, Err}
+use Prim.Native.Nat.{ℕ, ◌+◌, ◌*◌, ◌%◌, ◌^◌, ◌≤◌}
 use mathlib.Core.Path.{◌≡◌, ap, ◌∙◌}
 use mathlib.Core.List.{List, ◌++◌}
-use native.Mathlib.Nat.{mod-lt, lt_of_lt_of_le}
+use native.Mathlib.Nat.{mod-lt}
 use native.Mathlib.Omega.{arith}
-use lib.Arith.{digits_lt}
 use lib.Dec.{leb, ltb}
 use lib.ListN.{length, take, drop}
-use lib.Pow.{pow_pos, pow-add, pow_mono}
+use lib.Pow.{pow_pos}
 use Rattle.rules.specs.Fields.{field, value}
 use Rattle.rules.specs.Instructions.{codes, kind_of}
 use Rattle.rules.specs.Table.{code_of, within}
 use Rattle.rules.specs.Image.{code_width, width_of, instruction_bits, take_operand, take_one, bits_taken}
-use Rattle.rules.specs.declared.Taken.{Taken}
-use Rattle.rules.specs.declared.Taken.TheVariants.{Place, Unfit}
+use Rattle.rules.specs.Answers.{Decoded}
 use Rattle.rules.specs.declared.Kind.{Kind}
 use Rattle.rules.specs.declared.ImageRefusal.{ImageRefusal}
 use Rattle.rules.specs.declared.ImageRefusal.TheVariants.{EndsEarly, CodeTooHigh, OperandOutside}
@@ -30,24 +29,19 @@ module _ (w code operand : ℕ) {span : ℕ} (es : span ≡ 2 ^ w) where
       rw es
       (field_join code_width w code (operand % 2 ^ w) (mod-lt operand (pow_pos w)) ∙ ap (λ (l : List ℕ). field code_width code ++ l) (field_mod w operand))
 
-  pub joined_fits : code < 2 ^ 32 → w ≤ 32 → code * span + operand % span < 2 ^ 64
-  joined_fits hc hw =
-      let m : code * span + operand % span < 2 ^ (32 + w) = rw (es, pow-add 2 32 w) (digits_lt hc (mod-lt operand (pow_pos w))) in
-      lt_of_lt_of_le m (pow_mono {j = 64} (omega arith))
-
 -- ---- no longer than the longest, written or read
 
 pub written_most : (p : ℕ) → length (instruction_bits p) ≤ longest
 written_most p = omega (arith, instruction_length p, width_most (kind_of (code_of p)))
 
-unfoldable Most : Taken → Type 0
+unfoldable Most : Decoded → Type 0
 Most t = bits_taken t ≤ longest
 
-none : (e : ImageRefusal) → Most (Unfit e)
+none : (e : ImageRefusal) → Most (Err e)
 unfolding Most
 none e = omega arith
 
-some : (p : ℕ) (k : Kind) → Most (Place p (code_width + width_of k))
+some : (p : ℕ) (k : Kind) → Most (Ok (record { place = p; width = code_width + width_of k }))
 unfolding Most
 some p k = omega (arith, width_most k)
 

@@ -20,25 +20,9 @@ pub(crate) fn width_of(kind: Kind) -> usize
 {
     match kind {
         Kind::Bare => 0,
-        Kind::Immediate => 32,
-        Kind::Pattern => 32,
-        Kind::Offset => 11,
-        Kind::Target => 11,
+        Kind::Immediate | Kind::Pattern => 32,
+        Kind::Offset | Kind::Target => 11,
         Kind::Character => 7,
-    }
-}
-
-// How many values an operand of the kind has in an image.
-pub(crate) fn span_of(kind: Kind) -> u64
-    ensures { result ≡ 2 ^ width_of kind }
-{
-    match kind {
-        Kind::Bare => 1,
-        Kind::Immediate => 0x1_0000_0000,
-        Kind::Pattern => 0x1_0000_0000,
-        Kind::Offset => 0x800,
-        Kind::Target => 0x800,
-        Kind::Character => 0x80,
     }
 }
 
@@ -48,16 +32,7 @@ pub(crate) fn table_bits(kind: Kind, v: u32) -> u32
     ensures { result ≡ extended kind v }
 {
     match kind {
-        Kind::Bare => v,
-        Kind::Immediate => v,
-        Kind::Pattern => v,
-        Kind::Offset => {
-            if v < OFFSET_SIGN {
-                return v;
-            }
-            v + BEFORE_SIGN
-        }
-        Kind::Target => v,
-        Kind::Character => v,
+        Kind::Offset if OFFSET_SIGN <= v => v + BEFORE_SIGN,
+        _ => v,
     }
 }

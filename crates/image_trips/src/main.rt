@@ -9,157 +9,117 @@
 //   v  the same into a table one place short
 #![tactic(auto)]
 
+use program::Program;
 use rules::sizes::{IMAGE_SIZE, MAX_PROGRAM};
-use std::io;
 use std::io::{Read, Write};
+use std::{io, str};
 
-mod hex;
 mod say;
 
 // The bytes that are read at most.
 const INPUT_SIZE: usize = 65_536;
 
-// Whether two tables are the same.
-fn same(a: &[u64], b: &[u64]) -> bool {
-    if a.len() != b.len() {
-        return false;
-    }
-    for i in 0..a.len() {
-        if a[i] != b[i] {
-            return false;
-        }
-    }
-    true
-}
+// The bytes of an image of the input at most.
+const GIVEN_SIZE: usize = 8;
+
+const HEX: u32 = 16;
 
 // Unpacks an image, and says whether the table is there again.
 fn again<W: Write>(out: &mut W, image: &[u8], table: &[u64]) -> io::Result<()> {
     let mut second = [7u64; MAX_PROGRAM];
     say::answer(out, image::unpack(image, &mut second))?;
-    if same(table, &second) {
-        say::text(out, b" same")?;
+    if table == second.as_slice() {
+        write!(out, " same")?;
     }
     Ok(())
 }
 
-fn packed<W: Write>(
-    out: &mut W,
-    table: &[u64],
-    length: usize,
-    image: &mut [u8],
-) -> io::Result<usize> {
-    let told = say::answer(out, image::pack(table, length, image))?;
+// Packs a program into what is lent of an image, and gives back the length told.
+fn pack<W: Write>(out: &mut W, p: Program<'_>, image: &mut [u8]) -> io::Result<usize> {
+    let told = say::answer(out, image::pack(p, image))?;
     say::image(out, image, told)?;
     Ok(told)
 }
 
-// There and back.
-fn trip<W: Write>(out: &mut W, table: &[u64], length: usize) -> io::Result<()> {
-    let mut image = [7u8; IMAGE_SIZE];
-    let told = packed(out, table, length, &mut image)?;
-    if told <= IMAGE_SIZE {
-        again(out, &image[..told], table)?;
-    }
-    Ok(())
-}
-
-fn pack<W: Write>(out: &mut W, table: &[u64], length: usize) -> io::Result<()> {
-    let mut image = [7u8; IMAGE_SIZE];
-    packed(out, table, length, &mut image)?;
-    Ok(())
-}
-
-fn pack_short<W: Write>(out: &mut W, table: &[u64], length: usize) -> io::Result<()> {
-    let mut image = [7u8; IMAGE_SIZE - 1];
-    packed(out, table, length, &mut image)?;
-    Ok(())
-}
-
-fn unpacked<W: Write>(out: &mut W, image: &[u8], table: &mut [u64]) -> io::Result<()> {
+// Unpacks an image into what is lent of a table.
+fn unpack<W: Write>(out: &mut W, image: &[u8], table: &mut [u64]) -> io::Result<()> {
     let told = say::answer(out, image::unpack(image, table))?;
-    say::places(out, table, told)
+    say::contents(out, table, told, say::PLACE_DIGITS)
 }
 
-fn unpack<W: Write>(out: &mut W, image: &[u8]) -> io::Result<()> {
-    let mut table = [7u64; MAX_PROGRAM];
-    unpacked(out, image, &mut table)
+// A number in hex.
+fn hex(word: &str) -> u64 {
+    u64::from_str_radix(word, HEX).unwrap_or(0)
 }
 
-fn unpack_short<W: Write>(out: &mut W, image: &[u8]) -> io::Result<()> {
-    let mut table = [7u64; MAX_PROGRAM - 1];
-    unpacked(out, image, &mut table)
-}
-
-fn image_case<W: Write>(out: &mut W, kind: u8, image: &[u8]) -> io::Result<()> {
-    if kind == b'u' {
-        unpack(out, image)
-    } else {
-        unpack_short(out, image)
+// The numbers of a table are a length and the places.
+fn table_case<W: Write>(out: &mut W, kind: &str, numbers: &str) -> io::Result<()> {
+    let mut words = numbers.split_ascii_whitespace();
+    let length = words.next().map_or(0, hex) as usize;
+    let mut table = [0u64; MAX_PROGRAM];
+    for (place, word) in table.iter_mut().zip(words) {
+        *place = hex(word);
+    }
+    let p = Program {
+        table: &table,
+        length,
+    };
+    let mut image = [7u8; IMAGE_SIZE];
+    match kind {
+        "t" => {
+            let told = pack(out, p, &mut image)?;
+            match image.get(..told) {
+                Some(image) => again(out, image, &table),
+                None => Ok(()),
+            }
+        }
+        "o" => pack(out, p, &mut image[1..]).map(drop),
+        "s" => pack(
+            out,
+            Program {
+                table: &table[1..],
+                length,
+            },
+            &mut image,
+        )
+        .map(drop),
+        _ => pack(out, p, &mut image).map(drop),
     }
 }
 
 // The numbers of an image are its bytes.
-fn image_of<W: Write>(out: &mut W, kind: u8, numbers: &[u64]) -> io::Result<()> {
-    let mut image = [0u8; 8];
-    let n = hex::bytes(numbers, &mut image);
-    if n <= 8 {
-        image_case(out, kind, &image[..n])?;
+fn image_case<W: Write>(out: &mut W, kind: &str, numbers: &str) -> io::Result<()> {
+    let mut image = [0u8; GIVEN_SIZE];
+    for (byte, word) in image.iter_mut().zip(numbers.split_ascii_whitespace()) {
+        *byte = u8::from_str_radix(word, HEX).unwrap_or(0);
     }
-    Ok(())
-}
-
-fn table_case<W: Write>(out: &mut W, kind: u8, table: &[u64], length: usize) -> io::Result<()> {
+    let Some(image) = image.get(..numbers.split_ascii_whitespace().count()) else {
+        return Ok(());
+    };
+    let mut table = [7u64; MAX_PROGRAM];
     match kind {
-        b't' => trip(out, table, length),
-        b'o' => pack_short(out, table, length),
-        _ => pack(out, table, length),
+        "v" => unpack(out, image, &mut table[1..]),
+        _ => unpack(out, image, &mut table),
     }
 }
 
-// The numbers of a table are a length and the places.
-fn table_of<W: Write>(out: &mut W, kind: u8, numbers: &[u64]) -> io::Result<()> {
-    if numbers.len() < 3 {
-        return Ok(());
+// A case: its kind, and its numbers behind the first space.
+fn case<W: Write>(out: &mut W, line: &str) -> io::Result<()> {
+    let (kind, numbers) = line.split_once(' ').unwrap_or((line, ""));
+    match kind {
+        "u" | "v" => image_case(out, kind, numbers)?,
+        _ => table_case(out, kind, numbers)?,
     }
-    let length = numbers[1] as usize;
-    if kind == b's' {
-        table_case(out, kind, &numbers[3..], length)
-    } else {
-        table_case(out, kind, &numbers[2..], length)
-    }
+    writeln!(out)
 }
 
-fn case<W: Write>(out: &mut W, line: &[u8]) -> io::Result<()> {
-    if line.len() == 0 {
-        return Ok(());
-    }
-    let kind = line[0];
-    let mut numbers = [0u64; MAX_PROGRAM + 2];
-    hex::numbers(line, &mut numbers);
-    if kind < b'u' {
-        table_of(out, kind, &numbers)?;
-    } else {
-        image_of(out, kind, &numbers)?;
-    }
-    say::text(out, b"\n")
-}
-
-fn part<W: Write>(out: &mut W, line: &[u8], is_name: bool) -> io::Result<()> {
-    if is_name {
-        say::text(out, line)
-    } else {
-        case(out, line)
-    }
-}
-
-fn lines<W: Write>(out: &mut W, input: &[u8]) -> io::Result<()> {
-    let mut is_name = true;
-    let mut start = 0;
-    for i in 0..input.len() {
-        if input[i] == b'\n' {
-            part(out, &input[start..i], is_name)?;
-            is_name = !is_name;
-            start = i + 1;
+// The name of a case on a line, and the case on the next one.
+fn lines<W: Write>(out: &mut W, input: &str) -> io::Result<()> {
+    for (i, line) in input.lines().enumerate() {
+        if i % 2 == 0 {
+            write!(out, "{line}")?;
+        } else {
+            case(out, line)?;
         }
     }
     Ok(())
@@ -169,7 +129,10 @@ fn lines<W: Write>(out: &mut W, input: &[u8]) -> io::Result<()> {
 fn read_lines<R: Read, W: Write>(input: &mut R, out: &mut W) -> io::Result<()> {
     let mut bytes = [0u8; INPUT_SIZE];
     let n = reader::read_full(input, &mut bytes)?;
-    lines(out, &bytes[..n])
+    match str::from_utf8(&bytes[..n]) {
+        Ok(text) => lines(out, text),
+        Err(_) => Ok(()),
+    }
 }
 
 fn main(rt: HostRuntime) -> io::Result<()> {

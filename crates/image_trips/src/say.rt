@@ -1,86 +1,65 @@
 // What the program writes: answers, and what a lent output holds.
-use rules::Packed;
+use numbers::Numbered;
+use rules::ImageRefusal;
 use std::io;
 use std::io::Write;
 
-pub(crate) fn text<W: Write>(out: &mut W, t: &[u8]) -> io::Result<()> {
-    out.write_all(t)
-}
+// Hex digits of a byte, and of a place.
+const BYTE_DIGITS: usize = 2;
 
-fn wide(b: u8) -> u64 {
-    b as u64
-}
+pub(crate) const PLACE_DIGITS: usize = 16;
 
-fn number<W: Write>(out: &mut W, n: u64) -> io::Result<()> {
-    write!(out, " {n}")
-}
+// The most bytes of an image that are printed one by one.
+const MOST_BYTES: usize = 18;
 
 // The number and the length told, which it gives back.
-pub(crate) fn answer<W: Write>(out: &mut W, answer: Packed) -> io::Result<usize> {
-    let told = numbers::packed_length(answer);
-    number(out, numbers::packed_number(answer) as u64)?;
-    number(out, told as u64)?;
+pub(crate) fn answer<W: Write>(
+    out: &mut W,
+    answer: Result<usize, ImageRefusal>,
+) -> io::Result<usize> {
+    let number = answer.number();
+    let told = answer.unwrap_or(0);
+    write!(out, " {number} {told}")?;
     Ok(told)
 }
 
 // What stands behind what was told: zeros, or the sevens that were lent.
-fn rest<W: Write>(out: &mut W, seen: u64) -> io::Result<()> {
-    if seen == 1 {
-        text(out, b" zeros")?;
+fn rest<W: Write, T: Copy + Into<u64>>(out: &mut W, rest: &[T]) -> io::Result<()> {
+    if rest.is_empty() {
+        return Ok(());
     }
-    if seen == 2 {
-        text(out, b" kept")?;
+    if rest.iter().all(|x| (*x).into() == 0) {
+        return write!(out, " zeros");
+    }
+    if rest.iter().all(|x| (*x).into() == 7) {
+        return write!(out, " kept");
     }
     Ok(())
 }
 
-// Prints a number, or sees whether it is a zero, a seven or another.
-fn see<W: Write>(out: &mut W, n: u64, width: usize, prints: bool, seen: u64) -> io::Result<u64> {
-    if prints {
+// The first n, in hex of so many digits, and the rest.
+pub(crate) fn contents<W: Write, T: Copy + Into<u64>>(
+    out: &mut W,
+    held: &[T],
+    n: usize,
+    width: usize,
+) -> io::Result<()> {
+    let (told, others) = held.split_at(n.min(held.len()));
+    for x in told {
+        let n: u64 = (*x).into();
         write!(out, " {n:0width$x}")?;
-        return Ok(seen);
     }
-    if n == 0 {
-        return Ok(seen | 1);
-    }
-    if n == 7 {
-        return Ok(seen | 2);
-    }
-    Ok(4)
+    rest(out, others)
 }
 
-// The first n bytes, and the rest.
-fn bytes<W: Write>(out: &mut W, image: &[u8], n: usize) -> io::Result<()> {
-    let mut seen = 0;
-    for i in 0..image.len() {
-        seen = see(out, wide(image[i]), 2, i < n, seen)?;
-    }
-    rest(out, seen)
-}
-
-// The first n places, and the rest.
-pub(crate) fn places<W: Write>(out: &mut W, table: &[u64], n: usize) -> io::Result<()> {
-    let mut seen = 0;
-    for i in 0..table.len() {
-        seen = see(out, table[i], 16, i < n, seen)?;
-    }
-    rest(out, seen)
-}
-
-fn sum_of(image: &[u8]) -> u64 {
-    let mut total: u64 = 0;
-    for b in image {
-        total = (total + *b as u64) % 1_000_000;
-    }
-    total
-}
-
-// The bytes of an image; of a long one, their sum.
+// The bytes of an image; of a long one, their sum modulo a million.
 pub(crate) fn image<W: Write>(out: &mut W, image: &[u8], told: usize) -> io::Result<()> {
-    if told <= 18 {
-        bytes(out, image, told)
-    } else {
-        text(out, b" sum")?;
-        number(out, sum_of(image))
+    if told <= MOST_BYTES {
+        return contents(out, image, told, BYTE_DIGITS);
     }
+    let sum = image
+        .iter()
+        .fold(0u64, |total, b| total.wrapping_add(u64::from(*b)));
+    let sum = sum % 1_000_000;
+    write!(out, " sum {sum}")
 }

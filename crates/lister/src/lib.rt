@@ -5,23 +5,23 @@ mod line;
 mod lines;
 
 ghost use Rattle.std.specs.Prelude.{◌≡◌};
-ghost use Rattle.rules.specs.Table.{program};
 ghost use Rattle.rules.specs.Listing.{list};
+ghost use Rattle.program.specs.Lent.{program_of};
 
-use rules::{Listed, TextRefusal, sizes};
+use program::Program;
+use rules::{TextRefusal, sizes};
 
-// Lists the program in the first `length` places of the table into an output of 20,480 bytes: a line each, and zeros after the length told.
+// Lists the program into an output of 20,480 bytes: a line each, and zeros after the length told.
 // An output of another length is left as it is; one of this length is zeroed where the table is broken.
-pub fn list(table: &[u64], length: usize, text: &mut [u8]) -> Listed
-    ensures { (result ≡ (list (program table.now length) text.old).answer) × (text.new ≡ (list (program table.now length) text.old).bytes) }
+pub fn list(p: Program<'_>, text: &mut [u8]) -> Result<usize, TextRefusal>
+    ensures { (result ≡ (list (program_of p.entry) text.old).answer) × (text.new ≡ (list (program_of p.entry) text.old).bytes) }
 {
     if text.len() != sizes::LISTING_SIZE {
-        return Listed::Failed(TextRefusal::WrongLength);
+        return Err(TextRefusal::WrongLength);
     }
-    lent::clear_bytes(text);
-    if !program::table::is_sound(table, length) {
-        return Listed::Failed(TextRefusal::BrokenTable);
+    text.fill(0);
+    if !p.is_sound() {
+        return Err(TextRefusal::BrokenTable);
     }
-    let told = lines::put_lines(table, length, text);
-    Listed::Told(told)
+    Ok(lines::put_lines(p, text))
 }

@@ -1,9 +1,8 @@
 // One line of a listing, byte by byte.
-ghost use Rattle.std.specs.Prelude.{◌≡◌, ◌∷◌, ◌≤◌, length};
+ghost use Rattle.std.specs.Prelude.{◌≡◌, ◌≤◌, length};
 ghost use Rattle.rules.specs.Sizes.{listing_size};
-ghost use Rattle.rules.specs.Bytes.{space, hash};
 ghost use Rattle.rules.specs.Instructions.{name_of};
-ghost use Rattle.rules.specs.Listing.{decimal, signed_text, hex, operand_text, spaced, line_of};
+ghost use Rattle.rules.specs.Listing.{operand_text, spaced, line_of};
 ghost use Rattle.digits.specs.Put.{Put};
 
 use rules::Kind;
@@ -13,71 +12,54 @@ fn put_name(out: &mut [u8], at: usize, code: usize) -> usize
     ensures { Put out.old out.new at (name_of code) result }
 {
     let n = program::names::name_length(code);
-    let mut i = 0;
-    while i < n {
-        let b = program::names::name_byte(code, i);
-        digits::put_byte(out, at, i, b);
-        i += 1;
+    for i in 0..n {
+        digits::put_byte(out, at, i, program::names::name_byte(code, i));
     }
     n
 }
 
-// Writes a space and a signed number.
-fn put_number(out: &mut [u8], at: usize, v: u32) -> usize
-    requires { at ≤ 32768 }
-    ensures { Put out.old out.new at (space ∷ signed_text v) result }
+// Writes an operand, of which some instructions have none: a signed number, the bits of a FLOAT, or a number without a sign.
+#[tactic(auto, using(rules::proofs::Texts::length_hex))]
+fn put_operand(out: &mut [u8], at: usize, kind: Kind, v: u32) -> usize
+    requires { at ≤ 32769 }
+    ensures { Put out.old out.new at (operand_text kind v) result }
 {
-    digits::put_byte(out, at, 0, b' ');
-    let n = digits::put_signed(out, at + 1, v);
-    n + 1
-}
-
-// Writes a space and the bits of a FLOAT.
-fn put_pattern(out: &mut [u8], at: usize, v: u32) -> usize
-    requires { at ≤ 32768 }
-    ensures { Put out.old out.new at (space ∷ hash ∷ hex 8 v) result }
-{
-    digits::put_byte(out, at, 0, b' ');
-    digits::put_byte(out, at, 1, b'#');
-    let n = digits::put_hex(out, at + 2, v);
-    n + 2
-}
-
-// Writes a space and a number without a sign.
-fn put_unsigned(out: &mut [u8], at: usize, v: u32) -> usize
-    requires { at ≤ 32768 }
-    ensures { Put out.old out.new at (space ∷ decimal 9 v) result }
-{
-    digits::put_byte(out, at, 0, b' ');
-    let n = digits::put_decimal(out, at + 1, v as u64);
-    n + 1
+    match kind {
+        Kind::Bare => 0,
+        Kind::Immediate | Kind::Offset => digits::put_signed(out, at, v),
+        Kind::Pattern => {
+            digits::put_byte(out, at, 0, b'#');
+            digits::put_hex(out, at + 1, v, digits::WORD_HEX) + 1
+        }
+        Kind::Target | Kind::Character => digits::put_decimal(out, at, u64::from(v)),
+    }
 }
 
 // Writes what follows a name: nothing, or a space and the operand.
-fn put_operand(out: &mut [u8], at: usize, kind: Kind, v: u32) -> usize
+#[tactic(auto, using(crate::proofs::Writing::operand_short))]
+fn put_spaced(out: &mut [u8], at: usize, kind: Kind, v: u32) -> usize
     requires { at ≤ 32768 }
     ensures { Put out.old out.new at (spaced (operand_text kind v)) result }
 {
     match kind {
         Kind::Bare => 0,
-        Kind::Immediate => put_number(out, at, v),
-        Kind::Pattern => put_pattern(out, at, v),
-        Kind::Offset => put_number(out, at, v),
-        Kind::Target => put_unsigned(out, at, v),
-        Kind::Character => put_unsigned(out, at, v),
+        _ => {
+            digits::put_byte(out, at, 0, b' ');
+            put_operand(out, at + 1, kind, v) + 1
+        }
     }
 }
 
 // Writes the line of a place.
+#[tactic(auto, using(crate::proofs::Writing::name_short, crate::proofs::Writing::spaced_short))]
 pub(crate) fn put_line(out: &mut [u8], at: usize, place: u64) -> usize
     requires { (at ≤ listing_size) × (length (line_of place) ≤ 20) }
     ensures { Put out.old out.new at (line_of place) result }
 {
     let code = program::table::code_of(place);
     let kind = program::kinds::kind_of(code);
-    let v = program::table::operand_of(place);
     let n = put_name(out, at, code);
-    let m = put_operand(out, at + n, kind, v);
+    let m = put_spaced(out, at + n, kind, program::table::operand_of(place));
     digits::put_byte(out, at, n + m, b'\n');
     n + m + 1
 }

@@ -1,4 +1,5 @@
 -- An effect with room for its record and without: the registers after it, and what a commit makes of it. Assumes nothing.
+use Rattle.std.specs.Prelude.{Option, Some, None, Ok}
 use Prim.Native.Nat.{ℕ, ◌+◌, ◌-◌, ◌≤◌, ◌<◌}
 use mathlib.Core.Path.{◌≡◌, refl, sym, ap, ap₂, ◌∙◌}
 use mathlib.Core.Bool.{Bool, true, false}
@@ -11,10 +12,7 @@ use Rattle.rules.specs.Commit.{block, room_in, room_for, output_after, registers
 use Rattle.rules.specs.Decide.{demand}
 use Rattle.rules.specs.Step.{Stepped, unchanged, carried}
 use Rattle.rules.specs.declared.Registers.{Registers}
-use Rattle.rules.specs.declared.Shown.{Shown}
-use Rattle.rules.specs.declared.Shown.TheVariants.{Nothing, Byte}
 use Rattle.rules.specs.declared.Effect.{Effect}
-use Rattle.rules.specs.declared.Decision.TheVariants.{Does}
 use Rattle.rules.specs.declared.MachineRefusal.{MachineRefusal}
 use Rattle.rules.specs.declared.MachineRefusal.TheVariants.{HistoryFull}
 use Rattle.rules.specs.declared.Step.{Step}
@@ -50,30 +48,30 @@ module _ (r : Registers) (e : Effect) where
   -- ---- the commit, with room for the record and without
 
   pub with_room : (m : Memory) → room_for r e ≡ true → record { answer = Next (registers_of r e); memory = memory_of r m e } ≡ committed r m e
-  with_room m h = ap (λ (t : Bool). carried r m (demand t HistoryFull (Does e))) (sym h)
+  with_room m h = ap (λ (t : Bool). carried r m (demand t HistoryFull (Ok e))) (sym h)
 
   pub without_room : (m : Memory) → room_for r e ≡ false → unchanged m HistoryFull ≡ committed r m e
-  without_room m h = ap (λ (t : Bool). carried r m (demand t HistoryFull (Does e))) (sym h)
+  without_room m h = ap (λ (t : Bool). carried r m (demand t HistoryFull (Ok e))) (sym h)
 
   -- the record is kept, or it is refused, as the answer says: then what is left to do are the cells
   module _ (bits tags history h o : List ℕ) where
     abbrev whole : List ℕ → Bool → Stepped
-    whole l t = carried r (memory bits tags history l) (demand t HistoryFull (Does e))
+    whole l t = carried r (memory bits tags history l) (demand t HistoryFull (Ok e))
 
     -- the output, by the answer
     left_refused : (x : MachineRefusal) → output_by e.shows (Refused x) r.written o ≡ o
     left_refused x = go e.shows
       where
-        go : (z : Shown) → output_by z (Refused x) r.written o ≡ o
-        go Nothing = refl
-        go (Byte b) = refl
+        go : (z : Option ℕ) → output_by z (Refused x) r.written o ≡ o
+        go None = refl
+        go (Some b) = refl
 
     left_next : (q : Registers) → output_by e.shows (Next q) r.written o ≡ output_after e.shows r.written o
     left_next q = go e.shows
       where
-        go : (z : Shown) → output_by z (Next q) r.written o ≡ output_after z r.written o
-        go Nothing = refl
-        go (Byte b) = refl
+        go : (z : Option ℕ) → output_by z (Next q) r.written o ≡ output_after z r.written o
+        go None = refl
+        go (Some b) = refl
 
     refused_by : (t : Bool) (x : MachineRefusal) → Refused x ≡ (whole [] t).answer → h ≡ (whole [] t).memory.history
         → stepped (Refused x) bits tags h (output_by e.shows (Refused x) r.written o) ≡ whole o t

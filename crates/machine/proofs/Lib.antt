@@ -1,5 +1,4 @@
 pub mod Blocks
-pub mod Signed
 pub mod Reach
 pub mod Values
 pub mod Commits

@@ -33,13 +33,12 @@ halted_is p r m s h =
     let b = f.halt in
     eq-eqb r.halt 1 (omega (arith, h, b))
 
--- ---- where the run's loop stands: `left` of the limit is to make, from registers and a memory that are sound and not halted
+-- ---- where the run's loop stands: `made` steps are made of the limit, to registers and a memory that are sound and not halted
 
-pub record Reached (p : Program) (limit : ℕ) (r₀ : Registers) (m₀ : Memory) (left : ℕ) (r : Registers) (m : Memory) : Type 0 where
-  pub within : left ≤ limit
+pub record Reached (p : Program) (limit : ℕ) (r₀ : Registers) (m₀ : Memory) (made : ℕ) (r : Registers) (m : Memory) : Type 0 where
   pub good : sound p r m ≡ true
   pub running : r.halt ≡ 0
-  pub whole : run_from p left (limit - left) r m ≡ run_from p limit 0 r₀ m₀
+  pub whole : run_from p (limit - made) made r m ≡ run_from p limit 0 r₀ m₀
   pub bits : length m.cells.bits ≡ length m₀.cells.bits
   pub tags : length m.cells.tags ≡ length m₀.cells.tags
   pub history : length m.history ≡ length m₀.history
@@ -49,58 +48,55 @@ module _ (p : Program) (limit : ℕ) (r₀ : Registers) (m₀ : Memory) where
   pub start_halted : sound p r₀ m₀ ≡ true → (r₀.halt ≡ 0 → ⊥) → ended 0 Halted r₀ m₀ ≡ run_from p limit 0 r₀ m₀
   start_halted s h = sym (run_halted p 0 r₀ m₀ limit (halted_is p r₀ m₀ s h))
 
-  pub reached_start : sound p r₀ m₀ ≡ true → r₀.halt ≡ 0 → Reached p limit r₀ m₀ limit r₀ m₀
+  pub reached_start : sound p r₀ m₀ ≡ true → r₀.halt ≡ 0 → Reached p limit r₀ m₀ 0 r₀ m₀
   reached_start s h =
-      let none : limit - limit ≡ 0 = omega arith in
+      let all : limit - 0 ≡ limit = omega arith in
       record {
-        within = omega arith;
         good = s;
         running = h;
-        whole = ap (λ (n : ℕ). run_from p limit n r₀ m₀) none;
+        whole = ap (λ (n : ℕ). run_from p n 0 r₀ m₀) all;
         bits = refl;
         tags = refl;
         history = refl;
         output = refl;
       }
 
-  module _ (left : ℕ) (r : Registers) (m : Memory) (o : Reached p limit r₀ m₀ left r m) where
+  module _ (made : ℕ) (r : Registers) (m : Memory) (o : Reached p limit r₀ m₀ made r m) where
     going : eqb r.halt 1 ≡ false
     going = not_halted r o.running
 
     -- the limit is made
-    pub reached_limit : left ≤ 0 → ended limit LimitReached r m ≡ run_from p limit 0 r₀ m₀
-    reached_limit h =
-        let none : left ≡ 0 = omega arith in
-        let made : limit ≡ limit - left = omega arith in
-        sym (run_limit p limit r m going) ∙ ap₂ (λ (k n : ℕ). run_from p k n r m) (sym none) made ∙ o.whole
+    pub reached_limit : made ≤ limit → limit ≤ made → ended limit LimitReached r m ≡ run_from p limit 0 r₀ m₀
+    reached_limit within h =
+        let none : limit - made ≡ 0 = omega arith in
+        let all : limit ≡ made = omega arith in
+        sym (run_limit p limit r m going) ∙ ap₂ (λ (k n : ℕ). run_from p k n r m) (sym none) all ∙ o.whole
 
     -- a step is made or refused
-    module _ (low : 0 < left) (bits tags history output : List ℕ) where
-      begun : run_from p (suc (left - 1)) (limit - left) r m ≡ run_from p limit 0 r₀ m₀
-      begun = let one : suc (left - 1) ≡ left = omega arith in ap (λ (n : ℕ). run_from p n (limit - left) r m) one ∙ o.whole
+    module _ (low : made < limit) (bits tags history output : List ℕ) where
+      begun : run_from p (suc (limit - (made + 1))) made r m ≡ run_from p limit 0 r₀ m₀
+      begun = let one : suc (limit - (made + 1)) ≡ limit - made = omega arith in ap (λ (n : ℕ). run_from p n made r m) one ∙ o.whole
 
       pub reached_refused : (a : Step) (x : MachineRefusal) → a ≡ Refused x → stepped a bits tags history output ≡ step p r m
-          → ended (limit - left) (Stopped x) r (memory bits tags history output) ≡ run_from p limit 0 r₀ m₀
+          → ended made (Stopped x) r (memory bits tags history output) ≡ run_from p limit 0 r₀ m₀
       reached_refused a x k e =
-          ap (ended (limit - left) (Stopped x) r) (refused_keeps p r m o.good bits tags history output a x k e)
-          ∙ sym (run_refused p (limit - left) r m (left - 1) going x (sym (ap (λ s. s.answer) e) ∙ k))
+          ap (ended made (Stopped x) r) (refused_keeps p r m o.good bits tags history output a x k e)
+          ∙ sym (run_refused p made r m (limit - (made + 1)) going x (sym (ap (λ s. s.answer) e) ∙ k))
           ∙ begun
 
       module _ (a : Step) (q : Registers) (k : a ≡ Next q) (e : stepped a bits tags history output ≡ step p r m) where
         after_sound : sound p q (memory bits tags history output) ≡ true
         after_sound = next_sound p r m o.good bits tags history output a q k e
 
-        after_whole : run_from p (left - 1) (limit - (left - 1)) q (memory bits tags history output) ≡ run_from p limit 0 r₀ m₀
+        after_whole : run_from p (limit - (made + 1)) (made + 1) q (memory bits tags history output) ≡ run_from p limit 0 r₀ m₀
         after_whole =
-            let w = o.within in
-            let more : limit - (left - 1) ≡ limit - left + 1 = omega (arith, w) in
-            ap₂ (λ (n : ℕ) (z : Memory). run_from p (left - 1) n q z) more (ap (λ s. s.memory) e)
-            ∙ sym (run_next p (limit - left) r m (left - 1) going q (sym (ap (λ s. s.answer) e) ∙ k))
+            ap (λ (z : Memory). run_from p (limit - (made + 1)) (made + 1) q z) (ap (λ s. s.memory) e)
+            ∙ sym (run_next p made r m (limit - (made + 1)) going q (sym (ap (λ s. s.answer) e) ∙ k))
             ∙ begun
 
-        pub next_halted : (q.halt ≡ 0 → ⊥) → ended (limit - (left - 1)) Halted q (memory bits tags history output) ≡ run_from p limit 0 r₀ m₀
+        pub next_halted : (q.halt ≡ 0 → ⊥) → ended (made + 1) Halted q (memory bits tags history output) ≡ run_from p limit 0 r₀ m₀
         next_halted h =
-            sym (run_halted p (limit - (left - 1)) q (memory bits tags history output) (left - 1) (halted_is p q (memory bits tags history output) after_sound h))
+            sym (run_halted p (made + 1) q (memory bits tags history output) (limit - (made + 1)) (halted_is p q (memory bits tags history output) after_sound h))
             ∙ after_whole
 
         module _ (kb : length bits ≡ length m.cells.bits) (kt : length tags ≡ length m.cells.tags) (kh : length history ≡ length m.history) where
@@ -111,11 +107,9 @@ module _ (p : Program) (limit : ℕ) (r₀ : Registers) (m₀ : Memory) where
               let f : Sound p q (memory bits tags history output) = sound_facts p q (memory bits tags history output) after_sound in
               (sym f.bits ∙ kb ∙ o.bits ∙ f₀.bits, sym f.history ∙ kh ∙ o.history ∙ f₀.history)
 
-          pub reached_next : length output ≡ length m.output → q.halt ≡ 0 → Reached p limit r₀ m₀ (left - 1) q (memory bits tags history output)
+          pub reached_next : length output ≡ length m.output → q.halt ≡ 0 → Reached p limit r₀ m₀ (made + 1) q (memory bits tags history output)
           reached_next ko h =
-              let w = o.within in
               record {
-                within = omega (arith, w);
                 good = after_sound;
                 running = h;
                 whole = after_whole;

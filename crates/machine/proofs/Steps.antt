@@ -1,4 +1,5 @@
 -- A step in each of its cases, and what a sound state gives to the parts of a step. Assumes nothing.
+use Rattle.std.specs.Prelude.{Option, Some, None, Ok, Err}
 use Prim.Native.Nat.{ℕ, ◌<◌}
 use mathlib.Core.Path.{◌≡◌, refl, sym, ap, ◌∙◌, subst}
 use mathlib.Core.Bool.{true, false}
@@ -13,11 +14,8 @@ use Rattle.rules.specs.State.{Memory, memory, sound}
 use Rattle.rules.specs.Commit.{registers_of}
 use Rattle.rules.specs.Step.{decide_at, in_stack, in_output, in_history, fitted, judged, unchanged, carried, step, plain_step}
 use Rattle.rules.specs.declared.Registers.{Registers}
-use Rattle.rules.specs.declared.Shown.{Shown}
-use Rattle.rules.specs.declared.Shown.TheVariants.{Nothing, Byte}
 use Rattle.rules.specs.declared.Effect.{Effect}
-use Rattle.rules.specs.declared.Decision.{Decision}
-use Rattle.rules.specs.declared.Decision.TheVariants.{Does, Refuses}
+use Rattle.rules.specs.Answers.{Decision}
 use Rattle.rules.specs.declared.MachineRefusal.{MachineRefusal}
 use Rattle.rules.specs.declared.MachineRefusal.TheVariants.{AlreadyHalted, AtEnd, Broken}
 use Rattle.rules.specs.declared.Step.{Step}
@@ -33,19 +31,19 @@ use Rattle.machine.specs.Fields.{Fields}
 use Rattle.machine.specs.Fits.{InByte, Fits}
 
 -- a character is a byte
-in_byte : (x : Shown) → FairByte x → InByte x
-in_byte Nothing h = tt
-in_byte (Byte b) h = omega arith
+in_byte : (x : Option ℕ) → FairByte x → InByte x
+in_byte None h = tt
+in_byte (Some b) h = omega arith
 
 module _ (p : Program) (r : Registers) (m : Memory) where
   -- ---- "1 to 8 in order"
 
-  pub judged_halted : (r.halt ≡ 0 → ⊥) → judged p r m.cells (length m.output) ≡ Refuses AlreadyHalted
+  pub judged_halted : (r.halt ≡ 0 → ⊥) → judged p r m.cells (length m.output) ≡ Err AlreadyHalted
   unfolding judged
   judged_halted h = rw (ne_eqb r.halt 0 h) refl
 
   module _ (running : r.halt ≡ 0) where
-    pub judged_end : r.pc ≡ p.count → judged p r m.cells (length m.output) ≡ Refuses AtEnd
+    pub judged_end : r.pc ≡ p.count → judged p r m.cells (length m.output) ≡ Err AtEnd
     unfolding judged
     judged_end h = rw (eq-eqb r.halt 0 running, eq-eqb r.pc p.count h) refl
 
@@ -80,7 +78,7 @@ module _ (p : Program) (r : Registers) (m : Memory) where
     unfolding plain_step
     carries = step_plain p r m s
 
-    pub step_refuses : (a : Step) (x : MachineRefusal) → a ≡ Refused x → judged p r m.cells (length m.output) ≡ Refuses x → record { answer = a; memory = m } ≡ step p r m
+    pub step_refuses : (a : Step) (x : MachineRefusal) → a ≡ Refused x → judged p r m.cells (length m.output) ≡ Err x → record { answer = a; memory = m } ≡ step p r m
     step_refuses a x h q = ap (λ (z : Step). record { answer = z; memory = m }) h ∙ sym (carries ∙ ap (carried r m) q)
 
     -- at an instruction
@@ -102,7 +100,7 @@ module _ (p : Program) (r : Registers) (m : Memory) where
       pub coded : code_of (get_or p.places r.pc 0) < codes
       coded = place_coded p (sound_facts p r m s).table r.pc below
 
-      pub fits : (e : Effect) → in_stack r (decide_at r m.cells (get_or p.places r.pc 0)) ≡ Does e → Fits r e m.cells m.history
+      pub fits : (e : Effect) → in_stack r (decide_at r m.cells (get_or p.places r.pc 0)) ≡ Ok e → Fits r e m.cells m.history
       fits e q =
           let f : Sound p r m = sound_facts p r m s in
           let does = fitting_does _ _ (decide_at r m.cells place) e q in
@@ -132,11 +130,11 @@ module _ (p : Program) (r : Registers) (m : Memory) where
           (sound_step p r q m s (sym (ap (λ x. x.answer) plain) ∙ k))
 
       refused_same : (d : Decision) (x : MachineRefusal) → stepped (Refused x) bits tags history output ≡ carried r m d → memory bits tags history output ≡ m
-      refused_same (Does e) x h =
+      refused_same (Ok e) x h =
           let a : Refused x ≡ Next (registers_of r e) = ap (λ k. k.answer) h in
           let z : ◌≡◌ {A = ℕ} 0 1 = cc in
           absurd (let y : ⊥ = omega arith in y)
-      refused_same (Refuses y) x h = ap (λ k. k.memory) h
+      refused_same (Err y) x h = ap (λ k. k.memory) h
 
       pub refused_keeps : (a : Step) (x : MachineRefusal) → a ≡ Refused x → stepped a bits tags history output ≡ step p r m → memory bits tags history output ≡ m
       refused_keeps a x k e = refused_same (judged p r m.cells (length m.output)) x (ap (λ (z : Step). stepped z bits tags history output) (sym k) ∙ e ∙ carries)

@@ -5,7 +5,7 @@ use Rattle.rules.specs.Cells.{cells}
 use Rattle.rules.specs.Decide.{Action, on_values}
 use Rattle.rules.specs.declared.Cell.{Cell}
 use Rattle.rules.specs.declared.Registers.{Registers}
-use Rattle.rules.specs.declared.Decision.{Decision}
+use Rattle.rules.specs.Answers.{Decision}
 
 abbrev pub on_pair : Action → Registers → Cell → Cell → Decision
 on_pair a r vb vt = on_values r (cells [] []) 0 vb vt a

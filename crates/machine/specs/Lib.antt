@@ -2,7 +2,7 @@
 pub mod Spans
 pub mod Small
 pub mod Live
-pub mod Values
+pub mod Stack
 pub mod Reach
 pub mod Committed
 pub mod Plan

@@ -1,8 +1,7 @@
--- Where a base and an offset lead: to an address, or below 0. Assumes nothing.
-use Rattle.std.specs.Prelude.{ℤ, pos, negsuc}
-use Rattle.machine.specs.declared.addresses.Reach.{Reach}
-use Rattle.machine.specs.declared.addresses.Reach.TheVariants.{To, Below}
+-- Where a base and an offset lead: to an address, or nowhere, where that is below 0. Assumes nothing.
+use Rattle.std.specs.Prelude.{ℤ, pos, negsuc, Option, Some, None}
+use Rattle.rules.specs.declared.MemoryAddress.{MemoryAddress}
 
-abbrev pub reach_of : ℤ → Reach
-reach_of (pos a) = To (record { 0 = a })
-reach_of (negsuc a) = Below
+abbrev pub reach_of : ℤ → Option MemoryAddress
+reach_of (pos a) = Some (record { 0 = a })
+reach_of (negsuc a) = None

@@ -12,7 +12,7 @@ ghost use Rattle.machine.specs.Fits.{Fits};
 ghost use Rattle.machine.specs.Committed.{output_by, committed};
 
 use crate::records;
-use rules::{Effect, MachineRefusal, Registers, Shown, Step};
+use rules::{Effect, MachineRefusal, Registers, Step};
 
 // Sets `count` cells, from `from` on, to INT 0.
 fn zero_cells(bits: &mut [u32], tags: &mut [u8], from: usize, count: usize)
@@ -20,12 +20,10 @@ fn zero_cells(bits: &mut [u32], tags: &mut [u8], from: usize, count: usize)
     ensures bits_after { bits.new ≡ splice bits.old from (replicate count 0) }
     ensures tags_after { tags.new ≡ splice tags.old from (replicate count 0) }
 {
-    let mut i = 0;
-    while i < count {
-        let cell = from + i;
-        bits[cell] = 0;
-        tags[cell] = 0;
-        i += 1;
+    // Stays a loop: with `fill` the run takes over three times as many machine instructions.
+    for i in 0..count {
+        bits[from + i] = 0;
+        tags[from + i] = 0;
     }
 }
 
@@ -60,25 +58,22 @@ fn add_record(r: Registers, e: Effect, bits: &[u32], tags: &[u8], history: &mut 
     let at = e.at;
     let count = e.count;
     let used = r.used;
-    let mut i = 0;
-    while i < count {
+    for i in 0..count {
         let address = at + i;
-        let place = used + i;
-        history[place] = records::cell_place(address, tags[address], bits[address]);
-        i += 1;
+        history[used + i] = records::cell_place(address, tags[address], bits[address]);
     }
     let last = used + count;
     history[last] = records::step_place(r.pc, r.sp, r.fbr, count);
 }
 
 // How many bytes of the output are written after what is shown.
-fn written_after(shows: Shown, written: usize) -> usize
+fn written_after(shows: Option<u8>, written: usize) -> usize
     requires { written ≤ max_output }
     ensures { result ≡ written_after shows written }
 {
     match shows {
-        Shown::Nothing => written,
-        Shown::Byte(_) => written + 1,
+        None => written,
+        Some(_) => written + 1,
     }
 }
 
@@ -87,17 +82,15 @@ fn registers_with(r: Registers, e: Effect, used: usize, kept: usize) -> Register
     requires { r.written ≤ max_output }
     ensures { result ≡ registers_with r e used kept }
 {
-    let shows = e.shows;
     Registers {
-        n: r.n,
-        h: r.h,
         pc: e.pc,
         sp: e.sp,
         fbr: e.fbr,
         halt: e.halt,
         used,
         kept,
-        written: written_after(shows, r.written),
+        written: written_after(e.shows, r.written),
+        ..r
     }
 }
 

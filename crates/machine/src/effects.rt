@@ -1,16 +1,15 @@
-// The effect of a plan, by its shape, as specs/Plan.antt has it. Nothing is written here.
+// The effect of each plan, as specs/Plan.antt has it. Nothing is written here.
 ghost use Rattle.std.specs.Prelude.{◌≡◌, ◌-◌, ◌+◌, ◌<◌};
-ghost use Rattle.rules.specs.Cells.{cells};
 ghost use Rattle.rules.specs.Effects.{nothing, cell, effect};
 ghost use Rattle.machine.specs.Spans.{cell_span, byte_span};
 ghost use Rattle.machine.specs.Small.{Small};
-ghost use Rattle.machine.specs.Live.{Live};
-ghost use Rattle.machine.specs.Plan.{zeros_at, jumps, moves, frames, halts, results, stores, calls, links, swaps, fills, shows};
+ghost use Rattle.machine.specs.Stack.{cells_of};
+ghost use Rattle.machine.specs.Plan.{zeros_at, jumps, moves, frames, halts, pushes, stores, calls, links, swaps, fills, shows};
 
 use crate::cells;
 use crate::cells::INT_ZERO;
-use crate::plans::Plan;
-use rules::{Cell, Effect, Registers, Shown};
+use crate::stack::Stack;
+use rules::{Cell, Effect, Registers};
 
 // No cell is written.
 fn writing_none(pc: usize, sp: usize, fbr: usize, halt: usize) -> Effect
@@ -25,23 +24,23 @@ fn writing_none(pc: usize, sp: usize, fbr: usize, halt: usize) -> Effect
         count: 0,
         first: INT_ZERO,
         second: INT_ZERO,
-        shows: Shown::Nothing,
+        shows: None,
     }
 }
 
 // PC is the planned address.
-pub(crate) fn jumps(r: Registers, d: Plan) -> Effect
-    ensures { result ≡ jumps r d }
+pub(crate) fn jumps(r: Registers, sp: usize, target: u32) -> Effect
+    ensures { result ≡ jumps r sp target }
 {
-    writing_none(d.bits as usize, d.sp, r.fbr, 0)
+    writing_none(target as usize, sp, r.fbr, 0)
 }
 
 // FBR is the address.
-pub(crate) fn frames(r: Registers, d: Plan) -> Effect
+pub(crate) fn frames(r: Registers, sp: usize, fbr: usize) -> Effect
     requires { Small r }
-    ensures { result ≡ frames r d }
+    ensures { result ≡ frames r sp fbr }
 {
-    writing_none(r.pc + 1, d.sp, d.at, 0)
+    writing_none(r.pc + 1, sp, fbr, 0)
 }
 
 // HALT is set.
@@ -64,38 +63,33 @@ fn writing_one(pc: usize, sp: usize, fbr: usize, at: usize, c: Cell) -> Effect
         count: 1,
         first: c,
         second: INT_ZERO,
-        shows: Shown::Nothing,
+        shows: None,
     }
 }
 
-// The planned cell is the top, at the address.
-pub(crate) fn results(r: Registers, d: Plan) -> Effect
-    requires { Small r × (d.at < cell_span) }
-    ensures { result ≡ results r d }
+// The cell is pushed, at the address.
+pub(crate) fn pushes(r: Registers, at: usize, c: Cell) -> Effect
+    requires { Small r × (at < cell_span) }
+    ensures { result ≡ pushes r at c }
 {
-    let c = Cell {
-        bits: d.bits,
-        tag: d.tag,
-    };
-    writing_one(r.pc + 1, d.at + 1, r.fbr, d.at, c)
+    writing_one(r.pc + 1, at + 1, r.fbr, at, c)
 }
 
 // The top is stored at the address.
-pub(crate) fn stores(r: Registers, d: Plan, bits: &[u32], tags: &[u8]) -> Effect
-    requires { Small r × Live r bits.now tags.now }
-    ensures { result ≡ stores r (cells bits.now tags.now) d }
+pub(crate) fn stores(s: Stack<'_, '_>, sp: usize, at: usize) -> Effect
+    ensures { result ≡ stores s.entry.r (cells_of s.entry) sp at }
 {
-    writing_one(r.pc + 1, d.sp, r.fbr, d.at, cells::top(r, bits, tags))
+    writing_one(s.r.pc + 1, sp, s.r.fbr, at, s.top())
 }
 
 // PC is the planned address, and the address after the call is pushed.
-pub(crate) fn calls(r: Registers, d: Plan) -> Effect
-    requires { Small r × (d.at < cell_span) }
-    ensures { result ≡ calls r d }
+pub(crate) fn calls(r: Registers, at: usize, target: u32) -> Effect
+    requires { Small r × (at < cell_span) }
+    ensures { result ≡ calls r at target }
 {
     let next = r.pc + 1;
     let c = cells::program_cell(next as u32);
-    writing_one(d.bits as usize, d.at + 1, r.fbr, d.at, c)
+    writing_one(target as usize, at + 1, r.fbr, at, c)
 }
 
 // The old FBR is pushed, and FBR is the old SP.
@@ -108,81 +102,70 @@ pub(crate) fn links(r: Registers) -> Effect
 }
 
 // The two top values change places.
-pub(crate) fn swaps(r: Registers, bits: &[u32], tags: &[u8]) -> Effect
-    requires { Small r × Live r bits.now tags.now }
-    ensures { result ≡ swaps r (cells bits.now tags.now) }
+pub(crate) fn swaps(s: Stack<'_, '_>) -> Effect
+    ensures { result ≡ swaps s.entry.r (cells_of s.entry) }
 {
     Effect {
-        pc: r.pc + 1,
-        sp: r.sp,
-        fbr: r.fbr,
+        pc: s.r.pc + 1,
+        sp: s.r.sp,
+        fbr: s.r.fbr,
         halt: 0,
-        at: cells::below_top(r, 2).0,
+        at: s.below_sp(2).0,
         count: 2,
-        first: cells::top(r, bits, tags),
-        second: cells::second(r, bits, tags),
-        shows: Shown::Nothing,
+        first: s.top(),
+        second: s.second(),
+        shows: None,
     }
 }
 
 // SP moves, and so many cells from the address on become INT 0.
-fn writing_zeros(r: Registers, d: Plan, count: usize) -> Effect
+fn writing_zeros(r: Registers, sp: usize, at: usize, count: usize) -> Effect
     requires { Small r }
-    ensures { result ≡ effect (r.pc + 1) d.sp r.fbr 0 (zeros_at d.at count) }
+    ensures { result ≡ effect (r.pc + 1) sp r.fbr 0 (zeros_at at count) }
 {
     Effect {
         pc: r.pc + 1,
-        sp: d.sp,
+        sp,
         fbr: r.fbr,
         halt: 0,
-        at: d.at,
+        at,
         count,
         first: INT_ZERO,
         second: INT_ZERO,
-        shows: Shown::Nothing,
+        shows: None,
     }
 }
 
 // SP moves down.
-pub(crate) fn moves(r: Registers, d: Plan) -> Effect
+pub(crate) fn moves(r: Registers, sp: usize, from: usize) -> Effect
     requires { Small r }
-    ensures { result ≡ moves r d }
+    ensures { result ≡ moves r sp from }
 {
-    writing_zeros(r, d, 0)
-}
-
-// How far `to` lies above `from`, if it does.
-fn above(to: usize, from: usize) -> usize
-    ensures { result ≡ to - from }
-{
-    if to < from {
-        return 0;
-    }
-    to - from
+    writing_zeros(r, sp, from, 0)
 }
 
 // SP moves up, and what lies between is INT 0.
-pub(crate) fn fills(r: Registers, d: Plan) -> Effect
+pub(crate) fn fills(r: Registers, sp: usize, from: usize) -> Effect
     requires { Small r }
-    ensures { result ≡ fills r d }
+    ensures { result ≡ fills r sp from }
 {
-    writing_zeros(r, d, above(d.sp, d.at))
+    writing_zeros(r, sp, from, sp.saturating_sub(from))
 }
 
 // The planned character is shown, and no cell is written.
-pub(crate) fn shows(r: Registers, d: Plan) -> Effect
-    requires { Small r × (d.bits < byte_span) }
-    ensures { result ≡ shows r d }
+pub(crate) fn shows(r: Registers, sp: usize, character: u32) -> Effect
+    requires { Small r × (character < byte_span) }
+    ensures { result ≡ shows r sp character }
 {
     Effect {
         pc: r.pc + 1,
-        sp: d.sp,
+        sp,
         fbr: r.fbr,
         halt: 0,
         at: 0,
         count: 0,
         first: INT_ZERO,
         second: INT_ZERO,
-        shows: Shown::Byte(d.bits as u8),
+        shows: Some(character as u8),
     }
 }

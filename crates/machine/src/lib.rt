@@ -12,4 +12,5 @@ mod panel;
 mod plans;
 mod records;
 pub mod run;
+mod stack;
 pub mod step;

@@ -3,39 +3,37 @@ ghost use Rattle.std.specs.Prelude.{◌≡◌, ◌<◌, length};
 ghost use Rattle.rules.specs.Cells.{cells};
 ghost use Rattle.rules.specs.State.{memory};
 ghost use Rattle.rules.specs.Step.{in_output, in_history, carried};
-ghost use Rattle.rules.specs.declared.Decision.TheVariants.{Does};
 ghost use Rattle.state.specs.Outcomes.{stepped};
 ghost use Rattle.machine.specs.Spans.{byte_span};
 ghost use Rattle.machine.specs.Small.{Small};
 ghost use Rattle.machine.specs.Fits.{Fits};
 ghost use Rattle.machine.specs.Plan.{shows};
 
-use crate::plans::Plan;
 use crate::{commit, effects};
 use rules::{MachineRefusal, Registers, Step};
 
 // "12 when the output is full", then the commit, which asks 8; and where both pass, the byte.
 pub(crate) fn show(
     r: Registers,
-    d: Plan,
+    sp: usize,
+    character: u32,
     bits: &mut [u32],
     tags: &mut [u8],
     history: &mut [u64],
     output: &mut [u8],
 ) -> Step
-    requires small { Small r × (d.bits < byte_span) }
-    requires fits { Fits r (shows r d) (cells bits.old tags.old) history.old }
-    ensures { stepped result bits.new tags.new history.new output.new ≡ carried r (memory bits.old tags.old history.old output.old) (in_history r (in_output r (length output.old) (Does (shows r d)))) }
+    requires small { Small r × (character < byte_span) }
+    requires fits { Fits r (shows r sp character) (cells bits.old tags.old) history.old }
+    ensures { stepped result bits.new tags.new history.new output.new ≡ carried r (memory bits.old tags.old history.old output.old) (in_history r (in_output r (length output.old) (Ok (shows r sp character)))) }
 {
     let written = r.written;
     if output.len() <= written {
         return Step::Refused(MachineRefusal::OutputFull);
     }
-    let next = commit::commit(r, effects::shows(r, d), bits, tags, history);
-    match next {
+    match commit::commit(r, effects::shows(r, sp, character), bits, tags, history) {
         Step::Refused(refusal) => Step::Refused(refusal),
         Step::Next(registers) => {
-            output[written] = d.bits as u8;
+            output[written] = character as u8;
             Step::Next(registers)
         }
     }

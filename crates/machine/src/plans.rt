@@ -1,259 +1,154 @@
-// Plans: what an instruction decides, 3 to 7 in order, as a few numbers that stay in the processor's registers until they are carried out. What a
-// plan means as a decision of the rules says specs/Plan.antt. Each maker below makes the plan of the effect that has its name in the rules.
+// Plans: what an instruction decides, 3 to 7 in order, before anything is written. What a plan means as a decision of the rules says specs/Plan.antt. Each maker below makes the plan of the effect that has its name in the rules.
 ghost use Rattle.std.specs.Prelude.{◌≡◌, ◌-◌, ◌≤◌};
 ghost use Rattle.rules.specs.Cells.{Cells, cell_at};
 ghost use Rattle.rules.specs.Effects.{result as pushed_result, swapped, stored, moved, framed, linked, jumped, called, shown, halted, program_address};
-ghost use Rattle.rules.specs.declared.Decision.TheVariants.{Does};
 ghost use Rattle.machine.specs.Small.{Small};
 ghost use Rattle.rules.specs.Step.{in_stack};
 ghost use Rattle.machine.specs.Plan.{planned, Means};
 
-use rules::{Cell, MemoryAddress, Registers, tags};
+use rules::{Cell, MachineRefusal, MemoryAddress, Registers};
 
-// Accepted: what is done says the shape's clause in specs/Plan.antt. Then the refusals 3 to 7.
+// An instruction that is accepted, with what it needs to be carried out: the new SP, an address of cells, a cell to write, a target, a character.
 #[derive(Clone, Copy)]
-pub enum Shape {
-    Jump,
-    Move,
-    Frame,
+pub enum Plan {
+    Jump { sp: usize, target: u32 },
+    Move { sp: usize, from: usize },
+    Frame { sp: usize, fbr: usize },
     Halt,
-    Result,
-    Store,
-    Call,
+    Push { at: usize, cell: Cell },
+    Store { sp: usize, at: usize },
+    Call { at: usize, target: u32 },
     Link,
     Swap,
-    Fill,
-    Show,
-    TooFewValues,
-    WrongTag,
-    NoResult,
-    BadAddress,
-    StackFull,
+    Fill { sp: usize, from: usize },
+    Show { sp: usize, character: u32 },
 }
 
-// A shape with the new SP, an address of cells, and a cell to write, or a program address or a character as the bits. What a shape does not need is never read.
-#[derive(Clone, Copy)]
-pub struct Plan {
-    pub shape: Shape,
-    pub sp: usize,
-    pub at: usize,
-    pub bits: u32,
-    pub tag: u8,
-}
-
-// The refusals 3 to 7: the last where "new SP would be N or more".
-pub(crate) const TOO_FEW_VALUES: Plan = Plan {
-    shape: Shape::TooFewValues,
-    sp: 0,
-    at: 0,
-    bits: 0,
-    tag: tags::INT,
-};
-
-pub(crate) const WRONG_TAG: Plan = Plan {
-    shape: Shape::WrongTag,
-    sp: 0,
-    at: 0,
-    bits: 0,
-    tag: tags::INT,
-};
-
-pub(crate) const NO_RESULT: Plan = Plan {
-    shape: Shape::NoResult,
-    sp: 0,
-    at: 0,
-    bits: 0,
-    tag: tags::INT,
-};
-
-pub(crate) const BAD_ADDRESS: Plan = Plan {
-    shape: Shape::BadAddress,
-    sp: 0,
-    at: 0,
-    bits: 0,
-    tag: tags::INT,
-};
-
-pub(crate) const STACK_FULL: Plan = Plan {
-    shape: Shape::StackFull,
-    sp: 0,
-    at: 0,
-    bits: 0,
-    tag: tags::INT,
-};
+// A plan, or a refusal from 3 to 7: the last where "new SP would be N or more".
+// Stays: each maker asks for `Small r`: with a type for such registers it would read `r.registers.sp` wherever it reads `r.sp`.
+pub(crate) type Planned = Result<Plan, MachineRefusal>;
 
 // A cell is pushed, where SP stays below N.
-pub(crate) fn pushed(r: Registers, c: Cell) -> Plan
+pub(crate) fn pushed(r: Registers, c: Cell) -> Planned
     requires { Small r }
-    ensures { Means r result (Does (pushed_result r 0 c)) }
+    ensures { Means r result (Ok (pushed_result r 0 c)) }
 {
     if r.n <= r.sp + 1 {
-        return STACK_FULL;
+        return Err(MachineRefusal::StackFull);
     }
-    Plan {
-        shape: Shape::Result,
-        sp: 0,
-        at: r.sp,
-        bits: c.bits,
-        tag: c.tag,
-    }
+    Ok(Plan::Push { at: r.sp, cell: c })
 }
 
 // `popped` values are popped and a cell is pushed: SP does not rise.
-pub(crate) fn result(r: Registers, popped: usize, c: Cell) -> Plan
+pub(crate) fn result(r: Registers, popped: usize, c: Cell) -> Planned
     requires { Small r × (1 ≤ popped) × (popped ≤ r.sp) }
-    ensures { Means r result (Does (pushed_result r popped c)) }
+    ensures { Means r result (Ok (pushed_result r popped c)) }
 {
-    Plan {
-        shape: Shape::Result,
-        sp: 0,
+    Ok(Plan::Push {
         at: r.sp - popped,
-        bits: c.bits,
-        tag: c.tag,
-    }
+        cell: c,
+    })
 }
 
 // The two top values change places.
-pub(crate) fn swapped(r: Registers) -> Plan
+pub(crate) fn swapped(r: Registers) -> Planned
     requires { Small r }
-    ensures { (c : Cells) → planned r c result ≡ in_stack r (Does (swapped r (cell_at c (record { 0 = r.sp - 2 })) (cell_at c (record { 0 = r.sp - 1 })))) }
+    ensures { (c : Cells) → planned r c result ≡ in_stack r (Ok (swapped r (cell_at c (record { 0 = r.sp - 2 })) (cell_at c (record { 0 = r.sp - 1 })))) }
 {
-    Plan {
-        shape: Shape::Swap,
-        sp: 0,
-        at: 0,
-        bits: 0,
-        tag: tags::INT,
-    }
+    Ok(Plan::Swap)
 }
 
 // `popped` values are popped and the top is stored.
-pub(crate) fn stored(r: Registers, popped: usize, a: MemoryAddress) -> Plan
+pub(crate) fn stored(r: Registers, popped: usize, a: MemoryAddress) -> Planned
     requires { Small r × (popped ≤ r.sp) }
-    ensures { (c : Cells) → planned r c result ≡ in_stack r (Does (stored r popped a (cell_at c (record { 0 = r.sp - 1 })))) }
+    ensures { (c : Cells) → planned r c result ≡ in_stack r (Ok (stored r popped a (cell_at c (record { 0 = r.sp - 1 })))) }
 {
-    Plan {
-        shape: Shape::Store,
+    Ok(Plan::Store {
         sp: r.sp - popped,
         at: a.0,
-        bits: 0,
-        tag: tags::INT,
-    }
+    })
 }
 
 // SP moves from `popped` to an address below N; the cells between are zeroed where it moves up.
-pub(crate) fn moved(r: Registers, popped: usize, a: MemoryAddress) -> Plan
+pub(crate) fn moved(r: Registers, popped: usize, a: MemoryAddress) -> Planned
     requires { Small r × (popped ≤ r.sp) }
-    ensures { Means r result (Does (moved r popped a)) }
+    ensures { Means r result (Ok (moved r popped a)) }
 {
     if a.0 <= popped {
-        return Plan {
-            shape: Shape::Move,
+        return Ok(Plan::Move {
             sp: a.0,
-            at: popped,
-            bits: 0,
-            tag: tags::INT,
-        };
+            from: popped,
+        });
     }
     if r.n <= a.0 {
-        return STACK_FULL;
+        return Err(MachineRefusal::StackFull);
     }
-    Plan {
-        shape: Shape::Fill,
+    Ok(Plan::Fill {
         sp: a.0,
-        at: popped,
-        bits: 0,
-        tag: tags::INT,
-    }
+        from: popped,
+    })
 }
 
 // FBR is set from the popped top.
-pub(crate) fn framed(r: Registers, a: MemoryAddress) -> Plan
+pub(crate) fn framed(r: Registers, a: MemoryAddress) -> Planned
     requires { Small r × (1 ≤ r.sp) }
-    ensures { Means r result (Does (framed r a)) }
+    ensures { Means r result (Ok (framed r a)) }
 {
-    Plan {
-        shape: Shape::Frame,
+    Ok(Plan::Frame {
         sp: r.sp - 1,
-        at: a.0,
-        bits: 0,
-        tag: tags::INT,
-    }
+        fbr: a.0,
+    })
 }
 
 // The old FBR is pushed, where SP stays below N, and FBR is the old SP.
-pub(crate) fn linked(r: Registers) -> Plan
+pub(crate) fn linked(r: Registers) -> Planned
     requires { Small r }
-    ensures { Means r result (Does (linked r)) }
+    ensures { Means r result (Ok (linked r)) }
 {
     if r.n <= r.sp + 1 {
-        return STACK_FULL;
+        return Err(MachineRefusal::StackFull);
     }
-    Plan {
-        shape: Shape::Link,
-        sp: 0,
-        at: 0,
-        bits: 0,
-        tag: tags::INT,
-    }
+    Ok(Plan::Link)
 }
 
 // `popped` values are popped, and PC is set.
-pub(crate) fn jumped(r: Registers, popped: usize, target: u32) -> Plan
+pub(crate) fn jumped(r: Registers, popped: usize, target: u32) -> Planned
     requires { Small r × (popped ≤ r.sp) }
-    ensures { Means r result (Does (jumped r popped (program_address target))) }
+    ensures { Means r result (Ok (jumped r popped (program_address target))) }
 {
-    Plan {
-        shape: Shape::Jump,
+    Ok(Plan::Jump {
         sp: r.sp - popped,
-        at: 0,
-        bits: target,
-        tag: tags::INT,
-    }
+        target,
+    })
 }
 
 // `popped` values are popped, PC is set, and the address after the call is pushed, where SP stays below N.
-pub(crate) fn called(r: Registers, popped: usize, target: u32) -> Plan
+pub(crate) fn called(r: Registers, popped: usize, target: u32) -> Planned
     requires { Small r × (popped ≤ r.sp) }
-    ensures { Means r result (Does (called r popped (program_address target))) }
+    ensures { Means r result (Ok (called r popped (program_address target))) }
 {
     let at = r.sp - popped;
     if r.n <= at + 1 {
-        return STACK_FULL;
+        return Err(MachineRefusal::StackFull);
     }
-    Plan {
-        shape: Shape::Call,
-        sp: 0,
-        at,
-        bits: target,
-        tag: tags::INT,
-    }
+    Ok(Plan::Call { at, target })
 }
 
 // The top is popped, and its bits are shown.
-pub(crate) fn shown(r: Registers, character: u32) -> Plan
+pub(crate) fn shown(r: Registers, character: u32) -> Planned
     requires { Small r × (1 ≤ r.sp) }
-    ensures { Means r result (Does (shown r character)) }
+    ensures { Means r result (Ok (shown r character)) }
 {
-    Plan {
-        shape: Shape::Show,
+    Ok(Plan::Show {
         sp: r.sp - 1,
-        at: 0,
-        bits: character,
-        tag: tags::INT,
-    }
+        character,
+    })
 }
 
 // HALT is set, and PC stays.
-pub(crate) fn halted(r: Registers) -> Plan
+pub(crate) fn halted(r: Registers) -> Planned
     requires { Small r }
-    ensures { Means r result (Does (halted r)) }
+    ensures { Means r result (Ok (halted r)) }
 {
-    Plan {
-        shape: Shape::Halt,
-        sp: 0,
-        at: 0,
-        bits: 0,
-        tag: tags::INT,
-    }
+    Ok(Plan::Halt)
 }

@@ -1,35 +1,38 @@
 // A run: step after step, until HALT is 1, the limit is made, or a step is refused.
 ghost use Rattle.std.specs.Prelude.{◌≡◌, true, ◌≤◌};
 ghost use Rattle.rules.specs.Sizes.{max_limit};
-ghost use Rattle.rules.specs.Table.{program};
+ghost use Rattle.program.specs.Lent.{program_of};
 ghost use Rattle.rules.specs.State.{memory, sound};
 ghost use Rattle.rules.specs.Step.{step};
 ghost use Rattle.rules.specs.Run.{run_from, run};
 ghost use Rattle.state.specs.Outcomes.{stepped};
 ghost use Rattle.machine.specs.Outcomes.{ran};
 
+use crate::stack::Stack;
 use crate::{carry, decide};
+use program::Program;
 use rules::{Ending, MachineRefusal, Registers, Run, Step, sizes};
+
+// Stays: the lent slices one by one, here and in all calls that are lent a machine: a struct of them has to have a lifetime for each, is taken apart where it comes in and is made
+// anew at each call that it is handed on to (tried), and C lends them one by one.
 
 // One step of a sound state with HALT 0, neither of which is asked again: 2 to 7 in order, 12 and 8, or what the instruction does.
 fn take_step(
-    table: &[u64],
-    count: usize,
+    p: Program<'_>,
     r: Registers,
     bits: &mut [u32],
     tags: &mut [u8],
     history: &mut [u64],
     output: &mut [u8],
 ) -> Step
-    requires output_value { sound (program table.now count) r (memory bits.old tags.old history.old output.old) ≡ true }
+    requires output_value { sound (program_of p) r (memory bits.old tags.old history.old output.old) ≡ true }
     requires halt_value { r.halt ≡ 0 }
-    ensures { stepped result bits.new tags.new history.new output.new ≡ step (program table.now count) r (memory bits.old tags.old history.old output.old) }
+    ensures { stepped result bits.new tags.new history.new output.new ≡ step (program_of p.entry) r (memory bits.old tags.old history.old output.old) }
 {
-    let pc = r.pc;
-    if pc == count {
+    if r.pc == p.length {
         return Step::Refused(MachineRefusal::AtEnd);
     }
-    let d = decide::decide_at(table[pc], r, bits, tags);
+    let d = decide::decide_at(p.table[r.pc], Stack { r, bits, tags });
     carry::carry(r, d, bits, tags, history, output)
 }
 
@@ -38,17 +41,7 @@ fn with_sizes(n: usize, h: usize, r: Registers) -> Registers
     requires { (r.n ≡ n) × (r.h ≡ h) }
     ensures { result ≡ r }
 {
-    Registers {
-        n,
-        h,
-        pc: r.pc,
-        sp: r.sp,
-        fbr: r.fbr,
-        halt: r.halt,
-        used: r.used,
-        kept: r.kept,
-        written: r.written,
-    }
+    Registers { n, h, ..r }
 }
 
 // A run's answer.
@@ -64,8 +57,7 @@ fn ended(made: usize, how: Ending, at: Registers) -> Run
 
 // The steps of a run from a sound state, whose soundness is not judged again: each accepted step leaves a sound state.
 pub(crate) fn run_from(
-    table: &[u64],
-    count: usize,
+    p: Program<'_>,
     r: Registers,
     bits: &mut [u32],
     tags: &mut [u8],
@@ -73,24 +65,21 @@ pub(crate) fn run_from(
     output: &mut [u8],
     limit: usize,
 ) -> Run
-    requires output_value { sound (program table.now count) r (memory bits.old tags.old history.old output.old) ≡ true }
+    requires output_value { sound (program_of p) r (memory bits.old tags.old history.old output.old) ≡ true }
     requires limit_le_max_limit { limit ≤ max_limit }
-    ensures output_after { ran result bits.new tags.new history.new output.new ≡ run_from (program table.now count) limit 0 r (memory bits.old tags.old history.old output.old) }
+    ensures output_after { ran result bits.new tags.new history.new output.new ≡ run_from (program_of p.entry) limit 0 r (memory bits.old tags.old history.old output.old) }
     ensures steps_le_limit { result.steps ≤ limit }
 {
     if r.halt != 0 {
         return ended(0, Ending::Halted, r);
     }
-    let mut left = limit;
     let mut at = r;
-    while 0 < left {
-        let next = take_step(table, count, at, bits, tags, history, output);
-        match next {
-            Step::Refused(refusal) => return ended(limit - left, Ending::Stopped(refusal), at),
+    for made in 0..limit {
+        match take_step(p, at, bits, tags, history, output) {
+            Step::Refused(refusal) => return ended(made, Ending::Stopped(refusal), at),
             Step::Next(registers) => {
-                left -= 1;
                 if registers.halt != 0 {
-                    return ended(limit - left, Ending::Halted, registers);
+                    return ended(made + 1, Ending::Halted, registers);
                 }
                 at = with_sizes(r.n, r.h, registers);
             }
@@ -101,8 +90,7 @@ pub(crate) fn run_from(
 
 // A run of at most `limit` steps. It tells the steps it made, how it ended, and the registers it left.
 pub fn run(
-    table: &[u64],
-    length: usize,
+    p: Program<'_>,
     r: Registers,
     bits: &mut [u32],
     tags: &mut [u8],
@@ -110,16 +98,16 @@ pub fn run(
     output: &mut [u8],
     limit: usize,
 ) -> Run
-    ensures value { result ≡ (run (program table.now length) limit r (memory bits.old tags.old history.old output.old)).answer }
-    ensures output_after { memory bits.new tags.new history.new output.new ≡ (run (program table.now length) limit r (memory bits.old tags.old history.old output.old)).memory }
+    ensures value { result ≡ (run (program_of p.entry) limit r (memory bits.old tags.old history.old output.old)).answer }
+    ensures output_after { memory bits.new tags.new history.new output.new ≡ (run (program_of p.entry) limit r (memory bits.old tags.old history.old output.old)).memory }
     ensures steps_le_limit { result.steps ≤ limit }
 {
     if sizes::MAX_LIMIT < limit {
         return ended(0, Ending::Stopped(MachineRefusal::OutsideSizes), r);
     }
-    let sound = state::is_sound(table, length, r, bits, tags, history, output);
+    let sound = state::is_sound(p, r, bits, tags, history, output);
     if !sound {
         return ended(0, Ending::Stopped(MachineRefusal::Broken), r);
     }
-    run_from(table, length, r, bits, tags, history, output, limit)
+    run_from(p, r, bits, tags, history, output, limit)
 }

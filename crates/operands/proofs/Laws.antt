@@ -1,62 +1,31 @@
 -- Laws of number operands: a digit, the digits from a place of a text on, and the whole text.
 -- Assumes nothing.
+use Rattle.std.specs.Prelude.{Err}
 use mathlib.Core.Path.{◌≡◌, refl, sym, ap, ◌∙◌}
-use mathlib.Core.Bool.{true, false, false≢true}
+use mathlib.Core.Bool.{Bool, true, false, false≢true, ◌&&◌}
+use Rattle.std.specs.List.{list_all}
 use mathlib.Core.List.{List, [], ◌∷◌}
 use Prim.Native.Nat.{ℕ, suc, ◌+◌, ◌*◌, ◌-◌, ◌^◌, ◌≤◌, ◌<◌}
 use native.Mathlib.Numerals.{add-one}
 use native.Mathlib.Omega.{arith}
-use lib.Dec.{eqb, ltb}
+use lib.Dec.{ltb}
 use lib.ListN.{length, take, drop, get_or, drop_of_length-le, length-drop}
 use lib.Seq.{take_all}
 use native.Mathlib.Nat.{suc-mul, mul-le-mul_right, pow-zero, pow-suc, pow-succ', mul-one, zero-mul, add-mul, mul_assoc, mul-le-mul_left, pow-le-pow_right, lt_of_lt_of_le, add-zero}
-use Rattle.rules.specs.declared.Numeral.TheVariants.{Value, WrongForm, OutOfRange}
-use borrow.Author.Tests.{ltb-true, eq-eqb, ne_eqb, le-leb, lt-leb, lt-ltb, le-ltb}
+use Rattle.rules.specs.declared.NumeralFault.TheVariants.{OutOfRange}
+use borrow.Author.Tests.{ltb-true, eq-eqb, ne_eqb, lt-leb}
 use Rattle.rules.proofs.Tests.{drop_next, and_left, and_right}
-use Rattle.rules.proofs.Operands.{number_value}
-use Rattle.rules.specs.Operands.{digit_of, all_digits, numeral, is_numeral, signs, ranged, number_of, pattern_of}
+use Rattle.rules.specs.Operands.{digit_of, all_digits, numeral, is_numeral, signs, ranged, pattern_of, decimal_of, float_of}
+use Rattle.rules.specs.Bytes.{hash}
+use Rattle.std.proofs.Common.{zero-add}
 
-module _ (b : ℕ) where
-  pub digit_capital : 65 ≤ b → b ≤ 70 → digit_of b ≡ b - 55
-  unfolding digit_of
-  digit_capital h k = rw (le-leb 48 b (omega arith), lt-leb b 57 (omega arith), le-leb 65 b h, le-leb b 70 k)
-
-  pub digit_af : 97 ≤ b → b ≤ 102 → digit_of b ≡ b - 87
-  unfolding digit_of
-  digit_af h k =
-      rw (le-leb 48 b (omega arith), lt-leb b 57 (omega arith), le-leb 65 b (omega arith), lt-leb b 70 (omega arith), le-leb 97 b h, le-leb b 102 k)
-
-  pub digit_none : b < 48 → digit_of b ≡ 16
-  unfolding digit_of
-  digit_none h = rw (lt-leb 48 b h, lt-leb 65 b (omega arith), lt-leb 97 b (omega arith))
-
-  pub digit_none_2 : 57 < b → b < 65 → digit_of b ≡ 16
-  unfolding digit_of
-  digit_none_2 h k = rw (le-leb 48 b (omega arith), lt-leb b 57 h, lt-leb 65 b k, lt-leb 97 b (omega arith))
-
-  pub digit_none_3 : 70 < b → b < 97 → digit_of b ≡ 16
-  unfolding digit_of
-  digit_none_3 h k =
-      rw (le-leb 48 b (omega arith), lt-leb b 57 (omega arith), le-leb 65 b (omega arith), lt-leb b 70 h, lt-leb 97 b k)
-
-  pub digit_none_4 : 102 < b → digit_of b ≡ 16
-  unfolding digit_of
-  digit_none_4 h =
-      rw (le-leb 48 b (omega arith), lt-leb b 57 (omega arith), le-leb 65 b (omega arith), lt-leb b 70 (omega arith), le-leb 97 b (omega arith), lt-leb b 102 h)
+-- the library's test over a list, so that a chain answers it
+pub all_is : (base : ℕ) (s : List ℕ) → list_all (λ b. ltb (digit_of b) base) s ≡ all_digits base s
+unfolding all_digits
+all_is base [] = refl
+all_is base (b ∷ s) = ap (λ (t : Bool). ltb (digit_of b) base && t) (all_is base s)
 
 module _ (t : List ℕ) (i base : ℕ) where
-  pub all_end : length t ≤ i → all_digits base (drop i t) ≡ true
-  unfolding all_digits
-  all_end h = rw (drop_of_length-le t h)
-
-  pub all_no : i < length t → base ≤ digit_of (get_or t i 0) → all_digits base (drop i t) ≡ false
-  unfolding all_digits
-  all_no h k = rw (drop_next t i h, le-ltb (digit_of (get_or t i 0)) base k)
-
-  pub all_more : i < length t → digit_of (get_or t i 0) < base → all_digits base (drop i t) ≡ all_digits base (drop (i + 1) t)
-  unfolding all_digits
-  all_more h k = ap (all_digits base) (drop_next t i h) ∙ rw (lt-ltb (digit_of (get_or t i 0)) base k)
-
   pub numeral_end : (n : ℕ) → length t ≤ i → numeral base n (drop i t) ≡ n
   unfolding numeral
   numeral_end n h = rw (drop_of_length-le t h)
@@ -71,8 +40,11 @@ grows k n base d hb hd h =
     rw (add-one, pow-suc)
     (omega (arith, mul-le-mul_left {m = base} {n = 16} n hb))
 
-pub small : (k n : ℕ) → k ≤ 9 → n < 17 ^ k → n < 17 ^ 9
-small k n h l = lt_of_lt_of_le l (pow-le-pow_right {n = 17} (omega arith) h)
+-- at most nine digits leave room for one more
+pub room : (k n base d : ℕ) → k ≤ 9 → n < 17 ^ k → base ≤ 16 → d ≤ 16 → n * base + d < 2 ^ 64
+room k n base d h l hb hd =
+    let m = lt_of_lt_of_le l (pow-le-pow_right {n = 17} (omega arith) h) in
+    omega (arith, mul-le-mul_left {m = base} {n = 16} n hb, m)
 
 -- digits that are digits in a base make less than a power of it
 pub numeral_below : (base n k : ℕ) (s : List ℕ) → all_digits base s ≡ true → n < base ^ k → numeral base n s < base ^ (k + length s)
@@ -120,50 +92,22 @@ numeral_digits base s h = sym (some_numeral base s (numeral_length base s h)) �
 pub rest : (t : List ℕ) (i : ℕ) → take (length t - i) (drop i t) ≡ drop i t
 rest t i = take_all (length t - i) (drop i t) (rw length-drop (omega arith))
 
-module _ (t : List ℕ) (least most f : ℕ) (e : f ≡ signs t) where
-  pub number_wrong : is_numeral 10 (drop f t) ≡ false → number_of least most t ≡ WrongForm
-  unfolding number_of
-  number_wrong h = rw (← e, h)
+pub pattern_below : (ds : List ℕ) → length ds ≡ 8 → all_digits 16 ds ≡ true → numeral 16 0 ds < 2 ^ 32
+pattern_below ds h l = rw (zero-add, h) at (numeral_below 16 0 0 ds l (omega arith))
 
-  pub number_long : is_numeral 10 (drop f t) ≡ true → 10 < length (drop f t) → number_of least most t ≡ OutOfRange
-  unfolding number_of
-  number_long h l = rw (← e, h, lt-leb (length (drop f t)) 10 l)
+pub float_bits : (t : List ℕ) → 1 ≤ length t → get_or t 0 0 ≡ 35 → pattern_of (hash ∷ take (length t - 1) (drop 1 t)) ≡ float_of t
+unfolding float_of
+float_bits [] h k = absurd (omega arith)
+float_bits (b ∷ s) h k = rw (k, rest (35 ∷ s) 1) refl
 
-  pub number_fits : is_numeral 10 (drop f t) ≡ true → length (drop f t) ≤ 10 → number_of least most t ≡ ranged least most (eqb f 1) (numeral 10 0 (drop f t))
-  number_fits h l =
-      rw e
-      (number_value least most t (drop (signs t) t) refl (rw e at (numeral_length 10 (drop f t) h)) (rw e at l) (rw e at (numeral_digits 10 (drop f t) h)))
+pub float_none : (t : List ℕ) → length t ≡ 0 → float_of t ≡ decimal_of t
+unfolding float_of
+float_none [] h = refl
+float_none (b ∷ s) h = absurd (omega arith)
 
-pub pattern_length : (t : List ℕ) → (length t ≡ 9 → ⊥) → pattern_of t ≡ WrongForm
-unfolding pattern_of
-pattern_length [] h = refl
-pattern_length (b ∷ ds) h = rw (ne_eqb (length ds) 8 (λ e. h (ap suc e)))
-
-pub pattern_mark : (t : List ℕ) → length t ≡ 9 → (get_or t 0 0 ≡ 35 → ⊥) → pattern_of t ≡ WrongForm
-unfolding pattern_of
-pattern_mark [] h k = refl
-pattern_mark (b ∷ ds) h k =
-    let q : length ds ≡ 8 = omega arith in
-    rw (eq-eqb (length ds) 8 q, ne_eqb b 35 k)
-
-pub pattern_wrong : (t : List ℕ) → length t ≡ 9 → get_or t 0 0 ≡ 35 → all_digits 16 (drop 1 t) ≡ false → pattern_of t ≡ WrongForm
-unfolding pattern_of
-pattern_wrong [] h k l = refl
-pattern_wrong (b ∷ ds) h k l =
-    let q : length ds ≡ 8 = omega arith in
-    rw (eq-eqb (length ds) 8 q, eq-eqb b 35 k, l)
-
-pub pattern_value : (t : List ℕ) → length t ≡ 9 → get_or t 0 0 ≡ 35 → all_digits 16 (drop 1 t) ≡ true → pattern_of t ≡ Value (numeral 16 0 (drop 1 t))
-unfolding pattern_of
-pattern_value [] h k l = absurd (omega arith)
-pattern_value (b ∷ ds) h k l =
-    let q : length ds ≡ 8 = omega arith in
-    rw (eq-eqb (length ds) 8 q, eq-eqb b 35 k, l)
-
-pub pattern_below : (t : List ℕ) → length t ≡ 9 → all_digits 16 (drop 1 t) ≡ true → numeral 16 0 (drop 1 t) < 2 ^ 32
-pattern_below t h l =
-    let q : 0 + length (drop 1 t) ≡ 8 = rw (length-drop 1 t) (omega arith) in
-    rw q at (numeral_below 16 0 0 (drop 1 t) l (omega arith))
+pub float_decimal : (t : List ℕ) → (get_or t 0 0 ≡ hash → ⊥) → float_of t ≡ decimal_of t
+unfolding float_of
+float_decimal t h = rw (ne_eqb (get_or t 0 0) hash h)
 
 pub signs_none : (t : List ℕ) → length t ≡ 0 → signs t ≡ 0
 unfolding signs
@@ -176,10 +120,10 @@ signs_minus [] h k = absurd (omega arith)
 signs_minus (b ∷ s) h k = rw (eq-eqb b 45 k)
 
 module _ (least most n : ℕ) where
-  pub ranged_low : least < n → ranged least most true n ≡ OutOfRange
+  pub ranged_low : least < n → ranged least most true n ≡ Err OutOfRange
   unfolding ranged
   ranged_low h = rw (lt-leb n least h)
 
-  pub ranged_high : most < n → ranged least most false n ≡ OutOfRange
+  pub ranged_high : most < n → ranged least most false n ≡ Err OutOfRange
   unfolding ranged
   ranged_high h = rw (lt-leb n most h)

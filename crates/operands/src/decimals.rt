@@ -1,81 +1,49 @@
 // Decimals as text: an optional minus and digits with a point among them. It follows letter e of document 02.
-ghost use Rattle.std.specs.Prelude.{◌≡◌, true, ◌^◌, ◌≤◌, length};
-ghost use Rattle.rules.specs.Operands.{before_point, is_decimal, nearest_decimal, digits_in, decimal_of};
+ghost use Rattle.std.specs.Prelude.{◌≡◌, true, false, ◌+◌, ◌^◌, ◌≤◌, length, MatchOption};
+ghost use Rattle.rules.specs.Floats.{nearest_f};
+ghost use Rattle.rules.specs.Operands.{numeral, is_numeral, before_point, after_point, is_decimal, decimal_of};
 
-use crate::{DECIMAL, is_numeral, numeral_of, signs_of};
+use crate::{DECIMAL, is_numeral, numeral_of, split_sign};
 use floats::rounding::nearest_f;
-use rules::Numeral;
+use rules::NumeralFault;
 
 // "two to nine digits in all"
 const MAX_DECIMAL_DIGITS: usize = 9;
 
-// Where the first point stands: the length where there is none.
-fn point_at(ds: &[u8]) -> usize
-    ensures { result ≡ length (before_point ds.now) }
+// What stands before the first point, and what after it: nothing where there is none, and then the text is no decimal.
+fn sides(ds: &[u8]) -> Option<(&[u8], &[u8])>
+    ensures { MatchOption result (is_decimal ds.now ≡ false) (λ s. (s.0.now ≡ before_point ds.now) × (s.1.now ≡ after_point ds.now)) }
 {
-    let mut i = 0;
-    while i < ds.len() {
-        if ds[i] == b'.' {
-            return i;
-        }
-        i += 1;
-    }
-    i
+    let p = ds.iter().position(|b| *b == b'.')?;
+    Some((&ds[..p], &ds[p + 1..]))
 }
 
-// Whether a text whose first point stands at p has digits on both sides of it.
-fn is_decimal(ds: &[u8], p: usize) -> bool
-    requires { p ≡ length (before_point ds.now) }
-    ensures { result ≡ is_decimal ds.now }
+// The bits nearest a decimal of these digits before its point and after it: all of them as one number, over ten for each digit after the point.
+fn nearest_decimal(minus: bool, whole: &[u8], after: &[u8]) -> u32
+    requires whole_digits { is_numeral 10 whole.now ≡ true }
+    requires after_digits { is_numeral 10 after.now ≡ true }
+    requires few { length whole.now + length after.now ≤ 9 }
+    ensures { result ≡ nearest_f minus (numeral 10 (numeral 10 0 whole.now) after.now) (10 ^ length after.now) }
 {
-    if p == ds.len() {
-        return false;
-    }
-    if !is_numeral(&ds[..p], DECIMAL) {
-        return false;
-    }
-    let next = p + 1;
-    is_numeral(&ds[next..], DECIMAL)
-}
-
-// 10 to the power of `places`.
-fn tens(places: usize) -> u64
-    requires { places ≤ 9 }
-    ensures { result ≡ 10 ^ places }
-{
-    let mut n: u64 = 1;
-    let mut i = 0;
-    while i < places {
-        n = n * DECIMAL;
-        i += 1;
-    }
-    n
-}
-
-// The bits nearest a decimal whose point stands at p: all its digits as one number, over ten for each digit after the point.
-fn nearest_decimal(minus: bool, ds: &[u8], p: usize) -> u32
-    requires { (p ≡ length (before_point ds.now)) × ((is_decimal ds.now ≡ true) × (digits_in ds.now ≤ 9)) }
-    ensures { result ≡ nearest_decimal minus ds.now }
-{
-    let next = p + 1;
-    let after = &ds[next..];
-    let scale = tens(after.len());
-    let n = numeral_of(&ds[..p], DECIMAL) * scale + numeral_of(after, DECIMAL);
+    let scale = DECIMAL.pow(after.len() as u32);
+    let n = numeral_of(whole, DECIMAL) * scale + numeral_of(after, DECIMAL);
     nearest_f(minus, n as u32, scale as u32)
 }
 
 // A decimal operand of PUSHIMMF: an optional minus, and two to nine digits with a point among them.
-pub(crate) fn decimal_of(t: &[u8]) -> Numeral
+#[tactic(auto, unfolding(rules::specs::Operands::decimal_of, rules::specs::Operands::is_decimal, rules::specs::Operands::digits_in, rules::specs::Operands::nearest_decimal))]
+pub(crate) fn decimal_of(t: &[u8]) -> Result<u32, NumeralFault>
     ensures { result ≡ decimal_of t.now }
 {
-    let first = signs_of(t);
-    let ds = &t[first..];
-    let p = point_at(ds);
-    if !is_decimal(ds, p) {
-        return Numeral::WrongForm;
+    let (negative, ds) = split_sign(t);
+    let Some((whole, after)) = sides(ds) else {
+        return Err(NumeralFault::WrongForm);
+    };
+    if !is_numeral(whole, DECIMAL) || !is_numeral(after, DECIMAL) {
+        return Err(NumeralFault::WrongForm);
     }
-    if ds.len() - 1 > MAX_DECIMAL_DIGITS {
-        return Numeral::OutOfRange;
+    if whole.len() + after.len() > MAX_DECIMAL_DIGITS {
+        return Err(NumeralFault::OutOfRange);
     }
-    Numeral::Value(nearest_decimal(first == 1, ds, p))
+    Ok(nearest_decimal(negative, whole, after))
 }

@@ -4,10 +4,11 @@
 
 mod decimals;
 
-ghost use Rattle.std.specs.Prelude.{◌≡◌, ◌≤◌, length};
+ghost use Rattle.std.specs.Prelude.{◌≡◌, ◌≤◌, ◌∷◌, eqb, length, drop};
+ghost use Rattle.rules.specs.Bytes.{hash};
 ghost use Rattle.rules.specs.Operands.{digit_of, all_digits, numeral, is_numeral, signs, ranged, number_of, pattern_of, float_of};
 
-use rules::{Numeral, words};
+use rules::NumeralFault;
 
 // The bases of the digits: a byte that is no digit counts for the higher one.
 pub(crate) const DECIMAL: u64 = 10;
@@ -18,142 +19,107 @@ const HEX: u64 = 16;
 const MAX_DIGITS: usize = 10;
 
 // "`#` and eight hex digits"
-const PATTERN_SIZE: usize = 9;
+const PATTERN_DIGITS: usize = 8;
 
 // What a byte counts for as a digit: 16 where it is none.
+#[tactic(auto, unfolding(rules::specs::Operands::digit_of))]
 fn digit_of(b: u8) -> u64
     ensures { (result ≡ digit_of b) × (result ≤ 16) }
 {
-    if b < b'0' {
-        return HEX;
+    match b {
+        b'0'..=b'9' => (b - b'0') as u64,
+        b'A'..=b'F' => (b - b'A') as u64 + DECIMAL,
+        b'a'..=b'f' => (b - b'a') as u64 + DECIMAL,
+        _ => HEX,
     }
-    if b <= b'9' {
-        return (b - b'0') as u64;
-    }
-    if b < b'A' {
-        return HEX;
-    }
-    if b <= b'F' {
-        return (b - b'A') as u64 + DECIMAL;
-    }
-    if b < b'a' {
-        return HEX;
-    }
-    if b <= b'f' {
-        return (b - b'a') as u64 + DECIMAL;
-    }
-    HEX
 }
 
 // Whether each byte is a digit in the base.
 fn all_digits(ds: &[u8], base: u64) -> bool
     ensures { result ≡ all_digits base ds.now }
 {
-    let mut i = 0;
-    while i < ds.len() {
-        if digit_of(ds[i]) >= base {
-            return false;
-        }
-        i += 1;
-    }
-    true
+    ds.iter().all(|b| digit_of(*b) < base)
 }
 
 // Whether a text is one or more digits in the base.
+#[tactic(auto, using(crate::proofs::Laws::no_numeral, crate::proofs::Laws::some_numeral))]
 pub(crate) fn is_numeral(ds: &[u8], base: u64) -> bool
     ensures { result ≡ is_numeral base ds.now }
 {
-    if ds.len() == 0 {
-        return false;
-    }
-    all_digits(ds, base)
+    !ds.is_empty() && all_digits(ds, base)
 }
 
 // The number that the digits make: at most ten of them, so that it fits.
+#[tactic(auto, using(crate::proofs::Laws::numeral_more, crate::proofs::Laws::numeral_end, crate::proofs::Laws::grows, crate::proofs::Laws::room))]
 pub(crate) fn numeral_of(ds: &[u8], base: u64) -> u64
     requires { (length ds.now ≤ 10) × (base ≤ 16) }
     ensures { result ≡ numeral base 0 ds.now }
 {
-    let mut n: u64 = 0;
-    let mut i = 0;
-    while i < ds.len() {
-        n = n * base + digit_of(ds[i]);
-        i += 1;
+    let mut n = 0;
+    for b in ds {
+        n = n * base + digit_of(*b);
     }
     n
 }
 
-// How many minus signs stand in front: 1 or none.
-pub(crate) fn signs_of(t: &[u8]) -> usize
-    ensures { (result ≡ signs t.now) × (result ≤ length t.now) }
+// Whether a minus stands in front, and what stands behind it.
+#[tactic(auto, using(crate::proofs::Laws::signs_none, crate::proofs::Laws::signs_minus, rules::proofs::Operands::signs_other, crate::proofs::Laws::rest))]
+pub(crate) fn split_sign(t: &[u8]) -> (bool, &[u8])
+    ensures sign { result.0 ≡ eqb (signs t.now) 1 }
+    ensures digits { result.1.now ≡ drop (signs t.now) t.now }
 {
-    if t.len() == 0 {
-        return 0;
+    match t {
+        [b'-', ds @ ..] => (true, ds),
+        _ => (false, t),
     }
-    if t[0] == b'-' {
-        return 1;
-    }
-    0
 }
 
 // The number n, with a minus or without, as 32 bits: from -least to most.
-fn in_range(least: u32, most: u32, negative: bool, n: u64) -> Numeral
+#[tactic(auto, using(crate::proofs::Laws::ranged_low, crate::proofs::Laws::ranged_high, rules::proofs::Operands::ranged_least, rules::proofs::Operands::ranged_most), unfolding(rules::specs::Operands::negated))]
+fn in_range(least: u32, most: u32, negative: bool, n: u64) -> Result<u32, NumeralFault>
     ensures { result ≡ ranged least most negative n }
 {
-    if negative {
-        if n > least as u64 {
-            return Numeral::OutOfRange;
-        }
-        return Numeral::Value(((words::MODULUS - n) % words::MODULUS) as u32);
+    let bound = if negative { least } else { most };
+    if n > bound as u64 {
+        return Err(NumeralFault::OutOfRange);
     }
-    if n > most as u64 {
-        return Numeral::OutOfRange;
-    }
-    Numeral::Value(n as u32)
+    let word = n as u32;
+    Ok(if negative { word.wrapping_neg() } else { word })
 }
 
 // A number operand: an optional minus and digits, from -least to most.
-pub fn number_of(t: &[u8], least: u32, most: u32) -> Numeral
+#[tactic(auto, unfolding(rules::specs::Operands::number_of))]
+pub fn number_of(t: &[u8], least: u32, most: u32) -> Result<u32, NumeralFault>
     ensures { result ≡ number_of least most t.now }
 {
-    let first = signs_of(t);
-    let ds = &t[first..];
+    let (negative, ds) = split_sign(t);
     if !is_numeral(ds, DECIMAL) {
-        return Numeral::WrongForm;
+        return Err(NumeralFault::WrongForm);
     }
     if ds.len() > MAX_DIGITS {
-        return Numeral::OutOfRange;
+        return Err(NumeralFault::OutOfRange);
     }
-    in_range(least, most, first == 1, numeral_of(ds, DECIMAL))
+    in_range(least, most, negative, numeral_of(ds, DECIMAL))
 }
 
-// The bits of PUSHIMMF: `#` and eight hex digits.
-fn pattern_of(t: &[u8]) -> Numeral
-    ensures { result ≡ pattern_of t.now }
+// The bits of PUSHIMMF behind its `#`: eight hex digits.
+#[tactic(auto, using(crate::proofs::Laws::pattern_below), unfolding(rules::specs::Operands::pattern_of))]
+fn pattern_of(ds: &[u8]) -> Result<u32, NumeralFault>
+    ensures { result ≡ pattern_of (hash ∷ ds.now) }
 {
-    if t.len() != PATTERN_SIZE {
-        return Numeral::WrongForm;
+    if ds.len() != PATTERN_DIGITS || !all_digits(ds, HEX) {
+        return Err(NumeralFault::WrongForm);
     }
-    if t[0] != b'#' {
-        return Numeral::WrongForm;
-    }
-    let ds = &t[1..];
-    if !all_digits(ds, HEX) {
-        return Numeral::WrongForm;
-    }
-    let n = numeral_of(ds, HEX);
-    Numeral::Value(n as u32)
+    Ok(numeral_of(ds, HEX) as u32)
 }
 
 // The operand of PUSHIMMF: bits where a `#` stands in front, else a decimal.
-pub fn float_of(t: &[u8]) -> Numeral
+#[tactic(auto, using(crate::proofs::Laws::float_bits, crate::proofs::Laws::float_none, crate::proofs::Laws::float_decimal))]
+pub fn float_of(t: &[u8]) -> Result<u32, NumeralFault>
     ensures { result ≡ float_of t.now }
 {
-    if t.len() == 0 {
-        return Numeral::WrongForm;
+    match t {
+        [b'#', ds @ ..] => pattern_of(ds),
+        _ => decimals::decimal_of(t),
     }
-    if t[0] == b'#' {
-        return pattern_of(t);
-    }
-    decimals::decimal_of(t)
 }

@@ -4,3 +4,4 @@ pub mod OperandCodes
 pub mod NameWords
 pub mod NameTable
 pub mod SpMoves
+pub mod Chains

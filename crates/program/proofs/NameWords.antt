@@ -1,8 +1,9 @@
 -- The laws of words: each letter is found in its place, and two texts of capital letters with one word are the same. Assumes nothing.
 use Prim.Native.Nat.{ℕ, zero, suc, ◌+◌, ◌-◌, ◌*◌, ◌/◌, ◌%◌, ◌^◌, ◌≤◌, ◌<◌}
 use mathlib.Core.Path.{◌≡◌, refl, sym, ap, ap₂, ◌∙◌}
-use mathlib.Core.Bool.{true, false, and-false, true≢false}
-use mathlib.Core.List.{List, [], ◌∷◌}
+use mathlib.Core.Bool.{true, false, and-false}
+use mathlib.Core.List.{List, [], ◌∷◌, ◌++◌}
+use Rattle.std.proofs.Common.{Some, None, append_assoc, length-append, append-nil}
 use native.Mathlib.Nat.{zero-div, pow-suc, one-le-pow, not-suc-le-zero, le_of_suc-le-suc}
 use native.Mathlib.Omega.{arith}
 use lib.Dec.{leb, ltb}
@@ -10,7 +11,8 @@ use lib.ListN.{length, drop, get_or, drop_of_length-le, get_or-eq_default}
 use lib.Pow.{shr-shr}
 use borrow.Author.Tests.{leb-true, le-leb, lt-leb, ltb-true, ltb-false}
 use Rattle.rules.specs.Lists.{all}
-use Rattle.rules.proofs.Tests.{and_left, and_right, and_then, by_test, all_at, drop_next}
+use Rattle.rules.proofs.Tests.{and_left, and_right, by_test, all_at, drop_next}
+use Rattle.std.proofs.lemmas.List.{nil_from_length}
 use Rattle.program.specs.NameWords.{capital, word_of, name_like, text_word}
 
 -- ---- capital letters
@@ -109,14 +111,6 @@ word_equal (x ∷ s) (y ∷ t) h k e =
 -- ---- the word of a text
 
 module _ (t : List ℕ) where
-  pub text_like : name_like t ≡ true → text_word t ≡ word_of t
-  unfolding text_word
-  text_like h = rw h
-
-  pub text_unlike : name_like t ≡ false → text_word t ≡ 0
-  unfolding text_word
-  text_unlike h = rw h
-
   pub like_short : name_like t ≡ true → length t ≤ 9
   unfolding name_like
   like_short h = leb-true (length t) 9 (and_left (leb (length t) 9) (all capital t) h)
@@ -125,17 +119,61 @@ module _ (t : List ℕ) where
   unfolding name_like
   like_capital h = and_right (leb (length t) 9) (all capital t) h
 
-  pub is_like : length t ≤ 9 → all capital t ≡ true → name_like t ≡ true
-  unfolding name_like
-  is_like l h = and_then (le-leb (length t) 9 l) h
-
-  pub too_long_lem : 9 < length t → name_like t ≡ false
-  unfolding name_like
+  pub too_long_lem : 9 < length t → None ≡ text_word t
+  unfolding name_like text_word
   too_long_lem l = rw (lt-leb (length t) 9 l)
 
-  pub not_capital : (i : ℕ) → i < length t → capital (get_or t i 0) ≡ false → name_like t ≡ false
-  unfolding name_like
-  not_capital i l h =
-      by_test (all capital t)
-      (λ k. absurd (true≢false (sym (all_at capital t i k l) ∙ h)))
-      (λ k. rw k (and-false (leb (length t) 9)))
+  pub like_word : length t ≤ 9 → all capital t ≡ true → Some (word_of t) ≡ text_word t
+  unfolding name_like text_word
+  like_word l h = rw (le-leb (length t) 9 l, h)
+
+  pub word_like : (w : ℕ) → text_word t ≡ Some w → (name_like t ≡ true) × (w ≡ word_of t)
+  unfolding text_word
+  word_like w e =
+      by_test (name_like t)
+      (λ h.
+      let k = rw h at e in
+      (h, cc))
+      (λ h.
+      let k = rw h at e in
+      cc)
+
+-- ---- a text read from its end: what is left of it, and capital letters after that, whose word is w
+
+pub record ReadTo (t left : List ℕ) (w : ℕ) : Type 0 where
+  pub done : List ℕ
+  pub short : length t ≤ 9
+  pub whole : t ≡ left ++ done
+  pub letters : all capital done ≡ true
+  pub word : w ≡ word_of done
+
+pub nothing_read : (t left : List ℕ) → length t ≤ 9 → left ≡ t → ReadTo t left 0
+unfolding all word_of
+nothing_read t left h e = record { done = []; short = h; whole = sym e ∙ sym (append-nil left); letters = refl; word = refl }
+
+capital_not : (front done : List ℕ) (b : ℕ) → capital b ≡ false → all capital (front ++ (b ∷ done)) ≡ false
+unfolding all
+capital_not [] done b h = rw h
+capital_not (x ∷ front) done b h = rw (capital_not front done b h) (and-false (capital x))
+
+module _ {t left : List ℕ} {w : ℕ} (r : ReadTo t left w) where
+  -- there is room for one letter more
+  pub word_room : w < 32 ^ 9
+  word_room = rw r.word (word_below 9 r.done r.letters (omega (arith, ap length r.whole, length-append left r.done)))
+
+  pub all_read : length left ≡ 0 → Some w ≡ text_word t
+  all_read h =
+      let e : t ≡ r.done = r.whole ∙ ap (λ (l : List ℕ). l ++ r.done) (nil_from_length left h) in
+      rw r.word (rw e (like_word r.done (rw e at r.short) r.letters))
+
+  module _ (front : List ℕ) (b : ℕ) (k : left ≡ front ++ (b ∷ [])) where
+    split : t ≡ front ++ (b ∷ r.done)
+    split = r.whole ∙ ap (λ (l : List ℕ). l ++ r.done) k ∙ append_assoc front (b ∷ []) r.done
+
+    pub read_more : capital b ≡ true → ReadTo t front (w * 32 + (b - 64))
+    unfolding all word_of
+    read_more h = record { done = b ∷ r.done; short = r.short; whole = split; letters = rw h r.letters; word = omega (arith, r.word) }
+
+    pub read_other : capital b ≡ false → None ≡ text_word t
+    unfolding name_like text_word
+    read_other h = rw (split, capital_not front r.done b h, and-false (leb (length (front ++ (b ∷ r.done))) 9))

@@ -6,9 +6,11 @@ ghost use Rattle.rules.specs.Table.{within};
 use rules::{Kind, codes, sizes};
 
 // The kind of operand of the instruction with the code: none past the last.
+#[tactic(auto, unfolding(rules::specs::Instructions::kind_of, rules::specs::Instructions::row_of, rules::specs::Instructions::rows))]
 pub fn kind_of(code: usize) -> Kind
     ensures { result ≡ kind_of code }
 {
+    // Stays: with one arm for the codes of a kind, judging a table takes up to six machine instructions more for each place.
     match code {
         codes::PUSHIMM => Kind::Immediate,
         codes::PUSHIMMF => Kind::Pattern,
@@ -30,14 +32,8 @@ pub fn is_within(kind: Kind, count: usize, operand: u32) -> bool
 {
     match kind {
         Kind::Bare => operand == 0,
-        Kind::Immediate => true,
-        Kind::Pattern => true,
-        Kind::Offset => {
-            if operand <= sizes::MAX_OFFSET {
-                return true;
-            }
-            sizes::MIN_OFFSET <= operand
-        }
+        Kind::Immediate | Kind::Pattern => true,
+        Kind::Offset => operand <= sizes::MAX_OFFSET || sizes::MIN_OFFSET <= operand,
         Kind::Target => operand as usize <= count,
         Kind::Character => operand <= sizes::MAX_CHARACTER,
     }

@@ -54,25 +54,29 @@ const SWAPS: Moves = Moves {
 };
 
 // ADDSP needs as many as it takes away, or leaves as many as it adds.
+#[tactic(auto, using(crate::proofs::SpMoves::adds, crate::proofs::SpMoves::takes))]
 fn moved_by(operand: u32) -> Moves
     ensures { result ≡ moves_of add_sp operand }
 {
     if operand < words::LOWEST {
-        return Moves {
+        Moves {
             needs: 0,
             leaves: operand,
-        };
-    }
-    Moves {
-        needs: words::MINUS_ONE - operand + 1,
-        leaves: 0,
+        }
+    } else {
+        Moves {
+            needs: words::MINUS_ONE - operand + 1,
+            leaves: 0,
+        }
     }
 }
 
 // The moves of the instruction with the code: past the last, those of STOP.
+#[tactic(auto, unfolding(rules::specs::Instructions::action_of, rules::specs::Instructions::row_of, rules::specs::Instructions::rows, rules::specs::DepthList::depth_after))]
 pub fn moves_of(code: usize, operand: u32) -> Moves
     ensures { result ≡ moves_of (action_of code) operand }
 {
+    // Stays: one arm for the codes that move SP alike is no shorter, and the order of the codes is lost.
     match code {
         codes::STOP => STAYS,
         codes::PUSHIMM => PUSHES,

@@ -2,7 +2,7 @@
 ghost use Rattle.std.specs.Prelude.{◌≡◌, length, get_or};
 ghost use Rattle.rules.specs.Instructions.{name_of};
 ghost use Rattle.rules.specs.Assemble.{code_named};
-ghost use Rattle.program.specs.NameWords.{capital, word_of, text_word};
+ghost use Rattle.program.specs.NameWords.{word_of, text_word, named};
 
 use rules::codes;
 
@@ -18,6 +18,7 @@ const LETTER_SPAN: u64 = 32;
 const BEFORE_A: u8 = b'A' - 1;
 
 // The word of a code's name: 0 past the last code.
+#[tactic(auto, unfolding(crate::specs::NameWords::word_of, rules::specs::Instructions::name_of, rules::specs::Instructions::names, rules::specs::Instructions::rows, rules::specs::Lists::text))]
 fn name_word(code: usize) -> u64
     ensures { result ≡ word_of (name_of code) }
 {
@@ -89,9 +90,10 @@ pub fn name_byte(code: usize, i: usize) -> u8
     }
     let letter = (name_word(code) >> (i * LETTER_BITS)) % LETTER_SPAN;
     if letter == 0 {
-        return 0;
+        0
+    } else {
+        BEFORE_A + letter as u8
     }
-    BEFORE_A + letter as u8
 }
 
 // The length of a name: 0 past the last code.
@@ -99,55 +101,37 @@ pub fn name_length(code: usize) -> usize
     ensures { result ≡ length (name_of code) }
 {
     let mut rest = name_word(code);
-    let mut n = 0;
-    while rest != 0 {
+    for n in 0..NAME_SIZE {
+        if rest == 0 {
+            return n;
+        }
         rest /= LETTER_SPAN;
-        n += 1;
     }
-    n
+    NAME_SIZE
 }
 
-// Whether a byte is one of A to Z.
-fn is_capital(b: u8) -> bool
-    ensures { result ≡ capital b }
-{
-    if b < b'A' {
-        return false;
-    }
-    b <= b'Z'
-}
-
-// The word of a text: 0, which is no name's, where it is too long or not of capital letters.
-fn text_word(t: &[u8]) -> u64
+// The word of a text that is like a name: there is none where it is too long or not of capital letters.
+#[tactic(auto, using(crate::proofs::NameWords::too_long_lem, crate::proofs::NameWords::nothing_read, crate::proofs::NameWords::read_more), unfolding(crate::specs::NameWords::capital))]
+fn text_word(t: &[u8]) -> Option<u64>
     ensures { result ≡ text_word t.now }
 {
     if NAME_SIZE < t.len() {
-        return 0;
+        return None;
     }
     let mut word = 0;
-    let mut i = t.len();
-    while 0 < i {
-        i -= 1;
-        let b = t[i];
-        if !is_capital(b) {
-            return 0;
+    for b in t.iter().rev() {
+        if !b.is_ascii_uppercase() {
+            return None;
         }
-        word = word * LETTER_SPAN + (b - BEFORE_A) as u64;
+        word = word * LETTER_SPAN + (*b - BEFORE_A) as u64;
     }
-    word
+    Some(word)
 }
 
-// The code that the text names, and past the last where it names none.
-pub fn code_named(t: &[u8]) -> usize
-    ensures { result ≡ code_named t.now }
+// The code that the text names.
+pub fn code_named(t: &[u8]) -> Option<usize>
+    ensures { result ≡ named (code_named t.now) }
 {
-    let word = text_word(t);
-    let mut code = 0;
-    while code < codes::COUNT {
-        if name_word(code) == word {
-            return code;
-        }
-        code += 1;
-    }
-    codes::COUNT
+    let word = text_word(t)?;
+    (0..codes::COUNT).find(|code| name_word(*code) == word)
 }

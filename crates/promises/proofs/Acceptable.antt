@@ -1,4 +1,5 @@
 -- Request j: "Accept exactly if ..": a list is accepted where it is acceptable, and only there; and 65 and 66 tell the first place that fails. Assumes nothing.
+use Rattle.std.specs.Prelude.{Ok, Err}
 use Prim.Native.Nat.{ℕ, ◌+◌, ◌<◌, zero-le}
 use mathlib.Core.Path.{◌≡◌, refl, sym, ap, subst, ◌∙◌}
 use mathlib.Core.Bool.{Bool, true, false, not, ◌&&◌, ◌||◌, cond}
@@ -14,8 +15,7 @@ use Rattle.rules.specs.DepthList.{allowed_at, listed, rule_tests, rule, first_fa
 use Rattle.rules.specs.Numbers.{depth_number, number_of_checked, place_of_checked}
 use Rattle.rules.specs.declared.DepthRefusal.{DepthRefusal}
 use Rattle.rules.specs.declared.DepthRefusal.TheVariants.{UnsoundTable, OutsideCells, ListLength, ForbiddenInstruction, RuleFailed}
-use Rattle.rules.specs.declared.Checked.{Checked}
-use Rattle.rules.specs.declared.Checked.TheVariants.{Accepted, NotAccepted}
+use Rattle.rules.specs.Answers.{Checked}
 use Rattle.rules.proofs.Tests.{by_test, never, and_left, and_right, every_at}
 use Rattle.rules.proofs.Enough.{enough_le, le_enough}
 use Rattle.rules.proofs.Failing.{IsFirst, is_first, none_fails, all_pass}
@@ -82,14 +82,14 @@ module _ (p : Program) (place : ℕ) where
 
 -- ---- "Accept exactly if"
 
-not_accepted : {A : Type 0} (e : DepthRefusal) (place : ℕ) → NotAccepted e place ≡ Accepted → A
+not_accepted : {A : Type 0} (e : DepthRefusal) (place : ℕ) → ◌≡◌ {A = Checked} (Err (record { refusal = e; place = place })) (Ok tt) → A
 not_accepted e place q = let z : ◌≡◌ {A = ℕ} 0 1 = cc in absurd (let y : ⊥ = omega arith in y)
 
-passed : (test : Bool) (e : DepthRefusal) (place : ℕ) (d : Checked) → accept_if test e place d ≡ Accepted → (test ≡ true) × (d ≡ Accepted)
+passed : (test : Bool) (e : DepthRefusal) (place : ℕ) (d : Checked) → accept_if test e place d ≡ Ok tt → (test ≡ true) × (d ≡ Ok tt)
 passed true e place d q = (refl, q)
 passed false e place d q = not_accepted e place q
 
-pub accepted_acceptable : (p : Program) (n : ℕ) (depths : List ℕ) → check p n depths ≡ Accepted → Acceptable p n depths
+pub accepted_acceptable : (p : Program) (n : ℕ) (depths : List ℕ) → check p n depths ≡ Ok tt → Acceptable p n depths
 unfolding check
 accepted_acceptable p n depths q =
     let a = passed _ _ _ _ q in
@@ -108,7 +108,7 @@ accepted_acceptable p n depths q =
       rules = λ k h. rule_own p n depths k (none_fails (rule p n depths) p.count (eqb-true _ _ f.0) k h);
     }
 
-pub acceptable_accepted : (p : Program) (n : ℕ) (depths : List ℕ) → Acceptable p n depths → check p n depths ≡ Accepted
+pub acceptable_accepted : (p : Program) (n : ℕ) (depths : List ℕ) → Acceptable p n depths → check p n depths ≡ Ok tt
 unfolding check
 acceptable_accepted p n depths a =
     let allows : first_failing (allowed_at p) p.count 0 ≡ p.count = all_pass (allowed_at p) p.count (λ k h. at_allowed p k (a.allows k h)) in
@@ -132,12 +132,12 @@ in_order table cells long allows start rules forbidden failing =
     accept_if table UnsoundTable 0
     (accept_if cells OutsideCells 0
     (accept_if long ListLength 0
-    (accept_if allows ForbiddenInstruction forbidden (accept_if start RuleFailed 0 (accept_if rules RuleFailed failing Accepted)))))
+    (accept_if allows ForbiddenInstruction forbidden (accept_if start RuleFailed 0 (accept_if rules RuleFailed failing (Ok tt))))))
 
-other : {A : Type 0} (d : Checked) (e : DepthRefusal) (k : ℕ) → d ≡ NotAccepted e k → (number_of_checked d ≡ depth_number e → ⊥) → A
+other : {A : Type 0} (d : Checked) (e : DepthRefusal) (k : ℕ) → d ≡ Err (record { refusal = e; place = k }) → (number_of_checked d ≡ depth_number e → ⊥) → A
 other d e k q h = absurd (h (ap number_of_checked q))
 
-by_forbidden : (a b c d e f : Bool) (i j k : ℕ) → in_order a b c d e f i j ≡ NotAccepted ForbiddenInstruction k → (d ≡ false) × (i ≡ k)
+by_forbidden : (a b c d e f : Bool) (i j k : ℕ) → in_order a b c d e f i j ≡ Err (record { refusal = ForbiddenInstruction; place = k }) → (d ≡ false) × (i ≡ k)
 by_forbidden false b c d e f i j k q = other _ _ k q (λ z. omega (arith, z))
 by_forbidden true false c d e f i j k q = other _ _ k q (λ z. omega (arith, z))
 by_forbidden true true false d e f i j k q = other _ _ k q (λ z. omega (arith, z))
@@ -146,7 +146,7 @@ by_forbidden true true true true false f i j k q = other _ _ k q (λ z. omega (a
 by_forbidden true true true true true false i j k q = other _ _ k q (λ z. omega (arith, z))
 by_forbidden true true true true true true i j k q = other _ _ k q (λ z. omega (arith, z))
 
-by_rule : (a b c d e f : Bool) (i j k : ℕ) → in_order a b c d e f i j ≡ NotAccepted RuleFailed k → cond e ((f ≡ false) × (j ≡ k)) (k ≡ 0)
+by_rule : (a b c d e f : Bool) (i j k : ℕ) → in_order a b c d e f i j ≡ Err (record { refusal = RuleFailed; place = k }) → cond e ((f ≡ false) × (j ≡ k)) (k ≡ 0)
 by_rule false b c d e f i j k q = other _ _ k q (λ z. omega (arith, z))
 by_rule true false c d e f i j k q = other _ _ k q (λ z. omega (arith, z))
 by_rule true true false d e f i j k q = other _ _ k q (λ z. omega (arith, z))
@@ -177,7 +177,7 @@ module _ (p : Program) (n : ℕ) (depths : List ℕ) (place : ℕ) where
   failing_at = first_failing (rule p n depths) p.count 0
 
   -- the place of 65 is the first with a forbidden instruction
-  pub first_forbidden : check p n depths ≡ NotAccepted ForbiddenInstruction place → FirstNot p (AllowedAt p) place
+  pub first_forbidden : check p n depths ≡ Err (record { refusal = ForbiddenInstruction; place = place }) → FirstNot p (AllowedAt p) place
   unfolding check
   first_forbidden q =
       let from =
@@ -189,19 +189,19 @@ module _ (p : Program) (n : ℕ) (depths : List ℕ) (place : ℕ) where
   abbrev From : Bool → Type 0
   From b = cond b ((eqb failing_at p.count ≡ false) × (failing_at ≡ place)) (place ≡ 0)
 
-  from_rule : check p n depths ≡ NotAccepted RuleFailed place → From (listed p.count depths 0 0)
+  from_rule : check p n depths ≡ Err (record { refusal = RuleFailed; place = place }) → From (listed p.count depths 0 0)
   unfolding check
   from_rule q =
       by_rule (sound_table p) (leb 1 n && leb n max_cells) (eqb (length depths) p.count) (eqb forbidden_at p.count) (listed p.count depths 0 0)
       (eqb failing_at p.count) forbidden_at failing_at place q
 
   -- the place of 66 is the first whose rule fails, where place 0 has depth 0
-  pub first_failing_lem : check p n depths ≡ NotAccepted RuleFailed place → HasDepth p depths 0 0 → FirstNot p (RuleAt p n depths) place
+  pub first_failing_lem : check p n depths ≡ Err (record { refusal = RuleFailed; place = place }) → HasDepth p depths 0 0 → FirstNot p (RuleAt p n depths) place
   first_failing_lem q start =
       let from : From true = subst From (has_listed p depths 0 0 start) (from_rule q) in
       first_of p (RuleAt p n depths) (rule p n depths) place (rule_own p n depths) (own_rule p n depths) from.0 from.1
 
   -- and else it is 0
-  pub failing_start : check p n depths ≡ NotAccepted RuleFailed place → (HasDepth p depths 0 0 → ⊥) → place ≡ 0
+  pub failing_start : check p n depths ≡ Err (record { refusal = RuleFailed; place = place }) → (HasDepth p depths 0 0 → ⊥) → place ≡ 0
   failing_start q start =
       by_test (listed p.count depths 0 0) (λ e. absurd (start (listed_has p depths 0 0 e))) (λ e. subst From e (from_rule q))

@@ -1,5 +1,6 @@
 -- Request k: a state that is saved, and loaded again under the same program into slices of its N with an output of enough room, is what it was, but for its history.
 -- Assumes nothing.
+use Rattle.std.specs.Prelude.{Ok, is_ok}
 use Prim.Native.Nat.{ℕ, zero, suc, ◌+◌, ◌-◌, ◌*◌, ◌%◌, ◌^◌, ◌≤◌, ◌<◌, zero-le}
 use mathlib.Core.Path.{◌≡◌, refl, sym, ap, ap₂, ◌∙◌, subst, subst₂}
 use mathlib.Core.Bool.{true}
@@ -17,8 +18,6 @@ use Rattle.rules.specs.Table.{Program}
 use Rattle.rules.specs.State.{Memory, registers_holding, sound}
 use Rattle.rules.specs.SavedState.{head_layout, head_of, head_width, saved_cell_layout, saved_cell_width, cells_saved, state_bits, Saving, save, registers_in, column_in, cells_in, output_from, announced, bytes_in, told_cells, told_bytes, Loading, loaded, load}
 use Rattle.rules.specs.declared.Registers.{Registers}
-use Rattle.rules.specs.declared.Saved.TheVariants.{Bytes}
-use Rattle.rules.specs.declared.Resumed.TheVariants.{Going}
 use Rattle.rules.proofs.Table.{table_short}
 use Rattle.rules.proofs.Fields.{bits_of_length}
 use Rattle.rules.proofs.Layouts.{side_length, side_read}
@@ -150,7 +149,7 @@ module _ (p : Program) (r : Registers) (m : Memory) (s : Sound p r m) (t : Typed
     again_is : registers_in (length lent.history) (bits_of image) ≡ again
     again_is = ap (registers_in (length lent.history)) e ∙ registers_back_lem (length lent.history)
 
-    enters : entry_of image p lent ≡ Going
+    enters : entry_of image p lent ≡ Ok tt
     unfolding registers_in
     enters =
         let n : told_cells (bits_of image) ≡ r.n = ap (λ (q : Registers). q.n) again_is in
@@ -178,13 +177,13 @@ module _ (p : Program) (r : Registers) (m : Memory) (s : Sound p r m) (t : Typed
         ap₂ (λ (q : Registers) (l : List ℕ). padded (drop (announced q.n q.written) l)) again_is e
         ∙ ap padded behind_all ∙ padding_padded saved
 
-    loaded_back : load image p lent ≡ record { answer = record { resumed = Going; registers = (carried_to lent r m).registers }; memory = (carried_to lent r m).memory }
+    loaded_back : load image p lent ≡ record { answer = Ok (carried_to lent r m).registers; memory = (carried_to lent r m).memory }
     unfolding bytes_in
     loaded_back =
         load_done image p lent enters is_judged is_padded_lem
         ∙ ap₂ (λ (q : Registers) (l : List ℕ). loaded q l lent) again_is e
         ∙ ap₂ {C = Loading} (λ (c : Cells) (o : List ℕ). record {
-          answer = record { resumed = Going; registers = again };
+          answer = Ok again;
           memory =
               record {
                 cells = c;
@@ -206,8 +205,8 @@ carried_over p r m image lent h t long takes =
     let l : length (told_image (save p r m image)) ≡ bytes_for (length saved) = ap length same ∙ told_length state_size saved fits in
     let back = ap (λ (x : List ℕ). load x p lent) same ∙ loaded_back p r m s t told (told_bits state_size saved fits (state_bits_lem r m.cells m.output)) lent takes in
     record {
-      saves = ap (λ (o : Saving). o.answer) done ∙ ap Bytes (sym l);
+      saves = ap (λ (o : Saving). o.answer) done ∙ ap Ok (sym l);
       fits = subst (λ (n : ℕ). n ≤ state_size) (sym l) fits;
-      loads = ap (λ (o : Loading). o.answer.resumed) back;
+      loads = ap (λ (o : Loading). is_ok o.answer) back;
       keeps = ap left_by_load back;
     }

@@ -1,6 +1,7 @@
 -- Request j: "From a reset, no run of an accepted program meets 2, 3 or 7. Each place such a run reaches has SP as its listed depth." So for every program and list that
 -- are accepted, every lent memory of N cells that a reset accepts, whatever its history and output, and every series of steps, runs, step-backs and forgets: by demand 3
 -- it stands where a fresh run stands. Assumes nothing.
+use Rattle.std.specs.Prelude.{Ok, Err, IsOk}
 use Prim.Native.Nat.{ℕ}
 use mathlib.Core.Path.{◌≡◌, refl, sym, ap, ◌∙◌, subst}
 use mathlib.Core.Bool.{Bool, true, false}
@@ -18,17 +19,14 @@ use Rattle.rules.specs.Step.{Stepped, in_history, carried}
 use Rattle.rules.specs.Step as Step
 use Rattle.rules.specs.Run.{Ran}
 use Rattle.rules.specs.Run as Run
-use Rattle.rules.specs.Reset.{Started, begun, reset}
+use Rattle.rules.specs.Reset.{Started, begun, reset, registers_begun}
 use Rattle.rules.specs.DepthList.{check}
 use Rattle.rules.specs.declared.Registers.{Registers}
-use Rattle.rules.specs.declared.Decision.{Decision}
-use Rattle.rules.specs.declared.Decision.TheVariants.{Does, Refuses}
+use Rattle.rules.specs.Answers.{Decision}
 use Rattle.rules.specs.declared.MachineRefusal.TheVariants.{HistoryFull}
 use Rattle.rules.specs.declared.Step.{Step}
 use Rattle.rules.specs.declared.Ending.{Ending}
 use Rattle.rules.specs.declared.Ending.TheVariants.{Halted, LimitReached, Stopped}
-use Rattle.rules.specs.declared.Begun.TheVariants.{Ready}
-use Rattle.rules.specs.declared.Checked.TheVariants.{Accepted}
 use Rattle.rules.proofs.Runs.{run_long}
 use Rattle.rules.proofs.Spares.{Spares, spares_fitting}
 use Rattle.promises.specs.Unbounded.{Unbounded, decided}
@@ -43,8 +41,8 @@ use Rattle.promises.proofs.Acceptable.{accepted_acceptable}
 use Rattle.promises.proofs.OnList.{OnList, judged_spared, moved_on}
 
 carried_spared : (r : Registers) (m : Memory) (d : Decision) → Spares meets d → meets (number_of_step (carried r m d).answer) ≡ false
-carried_spared r m (Does e) h = refl
-carried_spared r m (Refuses x) h = h
+carried_spared r m (Ok e) h = refl
+carried_spared r m (Err x) h = h
 
 -- a run ends with a number that a step gives, or with 0 or 50
 ending_spared : (p : Program) (limit : ℕ) (a : Ran) (e : Ending) → Because p limit a e
@@ -53,7 +51,7 @@ ending_spared p limit a Halted b h = refl
 ending_spared p limit a LimitReached b h = refl
 ending_spared p limit a (Stopped x) b h = ap (λ (t : Step). meets (number_of_step t)) (sym b.2) ∙ h
 
-module _ (p : Program) (m : Memory) (depths : List ℕ) (accepts : check p (length m.cells.bits) depths ≡ Accepted) (ready : (reset p m).answer.begun ≡ Ready) where
+module _ (p : Program) (m : Memory) (depths : List ℕ) (accepts : check p (length m.cells.bits) depths ≡ Ok tt) (ready : IsOk (reset p m).answer) where
   abbrev o : State
   o = left (reset p m)
 
@@ -67,8 +65,8 @@ module _ (p : Program) (m : Memory) (depths : List ℕ) (accepts : check p (leng
   on_reset : OnList p depths x.registers
   on_reset =
       let a : Acceptable p (length m.cells.bits) depths = accepted_acceptable p (length m.cells.bits) depths accepts in
-      let on : OnList p depths (begun m).answer.registers = record { list = a; low = a.some; place = a.start } in
-      subst (λ (t : Started). OnList p depths t.answer.registers) (sym (reset_accepted p m ready).leaves) on
+      let on : OnList p depths (registers_begun (begun m).answer) = record { list = a; low = a.some; place = a.start } in
+      subst (λ (t : Started). OnList p depths (registers_begun t.answer)) (sym (reset_accepted p m ready).leaves) on
 
   on_run : (s : Session) → OnList p depths (others (fresh_run p x s).registers)
   on_run s = let on = moved_on p depths x on_reset (ahead s) in record { list = on.list; low = on.low; place = on.place }

@@ -1,4 +1,5 @@
 -- The states that a machine can be in, and what a step does there. Assumes nothing.
+use Rattle.std.specs.Prelude.{Ok}
 use Prim.Native.Nat.{ℕ, ◌≤◌}
 use mathlib.Core.Path.{◌≡◌, refl}
 use mathlib.Core.Bool.{true}
@@ -14,7 +15,6 @@ use Rattle.rules.specs.Step as Step
 use Rattle.rules.specs.Back.{plain_back, back}
 use Rattle.rules.specs.declared.Registers.{Registers}
 use Rattle.rules.specs.declared.Effect.{Effect}
-use Rattle.rules.specs.declared.Decision.TheVariants.{Does}
 use Rattle.rules.specs.declared.MachineRefusal.TheVariants.{NoHistory}
 use Rattle.rules.proofs.Fair.{Sound, Narrow, Blank}
 use Rattle.rules.proofs.Sound.{facts_sound, step_plain, sound_judged}
@@ -39,7 +39,7 @@ module _ (p : Program) (s : State) (g : Good p s) where
   step_good = step_plain p s.registers s.memory g.sound
 
   -- an accepted step leaves a good state
-  pub good_committed : (e : Effect) → judged p s.registers s.memory.cells (length s.memory.output) ≡ Does e → Good p (committed s e)
+  pub good_committed : (e : Effect) → judged p s.registers s.memory.cells (length s.memory.output) ≡ Ok e → Good p (committed s e)
   good_committed e q =
       record {
         sound = sound_judged p s.registers s.memory e g.sound q;

@@ -1,4 +1,5 @@
 -- A machine of H places that keeps some newest records of the unbounded run: what a step, a step-back and a forget do there. Assumes nothing.
+use Rattle.std.specs.Prelude.{Ok}
 use Prim.Native.Nat.{ℕ, ◌+◌, ◌-◌, ◌≤◌, ◌<◌}
 use mathlib.Core.Path.{◌≡◌, refl, sym, ap, ◌∙◌, subst}
 use mathlib.Core.Bool.{Bool, true, false}
@@ -21,11 +22,9 @@ use Rattle.rules.specs.Forget as Forget
 use Rattle.rules.specs.Forget.{moved_down, not_forgotten}
 use Rattle.rules.specs.declared.Registers.{Registers}
 use Rattle.rules.specs.declared.Effect.{Effect}
-use Rattle.rules.specs.declared.Decision.TheVariants.{Does}
 use Rattle.rules.specs.declared.MachineRefusal.TheVariants.{NoHistory}
 use Rattle.rules.specs.declared.ForgetRefusal.TheVariants.{TooManySteps}
 use Rattle.rules.specs.declared.Step.TheVariants.{Next}
-use Rattle.rules.specs.declared.Forgot.TheVariants.{Forgotten}
 use Rattle.rules.proofs.Fair.{Sound, Fair}
 use Rattle.rules.proofs.FairEffects.{sound_facts}
 use Rattle.rules.proofs.Sound.{length_record}
@@ -93,7 +92,7 @@ module _ (p : Program) (h : ℕ) (short : h ≤ max_history) where
 
   -- ---- a step
 
-  module _ (x : Unbounded) (g : Good p (plain x)) (e : Effect) (q : decided p x ≡ Does e) where
+  module _ (x : Unbounded) (g : Good p (plain x)) (e : Effect) (q : decided p x ≡ Ok e) where
     abbrev newest : List ℕ
     newest = record_of x.registers x.cells e
 
@@ -130,7 +129,7 @@ module _ (p : Program) (h : ℕ) (short : h ≤ max_history) where
                   output = output_after e.shows x.registers.written x.output;
                 };
           }
-          ≡ held h (added b newest ls) (moves x (Does e))
+          ≡ held h (added b newest ls) (moves x (Ok e))
       commit_added true fits =
           λ i. record {
             registers = registers_with (held h ls x).registers e (sym long i) (add-one (length ls) i);
@@ -144,14 +143,14 @@ module _ (p : Program) (h : ℕ) (short : h ≤ max_history) where
       commit_added false fits = refl
 
       module _ (fits : length (places_of (added (ltb 0 h) newest ls)) ≤ h) where
-        pub judged_held : judged p (held h ls x).registers x.cells (length x.output) ≡ Does e
+        pub judged_held : judged p (held h ls x).registers x.cells (length x.output) ≡ Ok e
         judged_held = judged_others p (held h ls x).registers x.cells (length x.output) e q (room_added (ltb 0 h) fits)
 
-        pub commit_held : committed (held h ls x) e ≡ held h (added (ltb 0 h) newest ls) (moves x (Does e))
+        pub commit_held : committed (held h ls x) e ≡ held h (added (ltb 0 h) newest ls) (moves x (Ok e))
         commit_held = commit_added (ltb 0 h) fits
 
         -- a step-back takes it away again
-        pub back_held : 0 < h → Good p (held h ls x) → (t : State) → t ≡ held h (added (ltb 0 h) newest ls) (moves x (Does e))
+        pub back_held : 0 < h → Good p (held h ls x) → (t : State) → t ≡ held h (added (ltb 0 h) newest ls) (moves x (Ok e))
             → back p t.registers t.memory ≡ record { answer = Next (held h ls x).registers; memory = (held h ls x).memory }
         back_held some good t at =
             ap (λ (y : State). back p y.registers y.memory) (at ∙ sym commit_held)
@@ -194,7 +193,7 @@ module _ (p : Program) (h : ℕ) (short : h ≤ max_history) where
 
     pub forget_held : (k : ℕ) → k ≤ length ls
         → Forget.forget p k (held h ls x).registers (held h ls x).memory
-        ≡ record { answer = Forgotten (held h (take (length ls - k) ls) x).registers; memory = (held h (take (length ls - k) ls) x).memory }
+        ≡ record { answer = Ok (held h (take (length ls - k) ls) x).registers; memory = (held h (take (length ls - k) ls) x).memory }
     forget_held k few =
         let i : ℕ = length ls - k in
         let r : Registers = (held h ls x).registers in
@@ -204,7 +203,7 @@ module _ (p : Program) (h : ℕ) (short : h ≤ max_history) where
         let kept : i ≡ length (take i ls) = sym (length-take-le i ls (omega arith)) in
         forget_done p k r m tests few ∙ ap (λ (n : ℕ). Forget.forgotten n k r m) free
         ∙ (λ j. record {
-          answer = Forgotten (registers_holding h (used j) (kept j) r);
+          answer = Ok (registers_holding h (used j) (kept j) r);
           memory = record { cells = x.cells; history = moved_held i j; output = x.output };
         })
 

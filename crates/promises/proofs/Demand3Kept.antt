@@ -1,5 +1,6 @@
 -- What every request of a series keeps: the session is the fresh run after S minus B steps, and of its records the newest are held, as many as were not forgotten.
 -- Assumes nothing.
+use Rattle.std.specs.Prelude.{Ok, Err}
 use Prim.Native.Nat.{ℕ, zero, suc, ◌+◌, ◌-◌, ◌≤◌, ◌<◌, zero-le}
 use mathlib.Core.Path.{◌≡◌, refl, sym, ap, ◌∙◌, subst}
 use mathlib.Core.Bool.{Bool, true, false, cond}
@@ -19,8 +20,7 @@ use Rattle.rules.specs.Commit.{record_of, room_for}
 use Rattle.rules.specs.Records.{places_of}
 use Rattle.rules.specs.Forget as Forget
 use Rattle.rules.specs.declared.Effect.{Effect}
-use Rattle.rules.specs.declared.Decision.{Decision}
-use Rattle.rules.specs.declared.Decision.TheVariants.{Does, Refuses}
+use Rattle.rules.specs.Answers.{Decision}
 use Rattle.rules.specs.declared.MachineRefusal.TheVariants.{NoHistory}
 use Rattle.rules.specs.declared.ForgetRefusal.TheVariants.{TooManySteps}
 use Rattle.rules.specs.declared.Step.TheVariants.{Next}
@@ -132,20 +132,20 @@ module _ (p : Program) (o : State) (x₀ : Unbounded) (begins : Begins p o x₀)
   -- ---- a step
 
   -- an accepted one is one more of the run, and its record is held where there is a history
-  module _ (s : Session) (w : Kept s) (e : Effect) (q : judged p s.registers s.memory.cells (length s.memory.output) ≡ Does e) where
+  module _ (s : Session) (w : Kept s) (e : Effect) (q : judged p s.registers s.memory.cells (length s.memory.output) ≡ Ok e) where
     abbrev x : Unbounded
     x = reached w.far
 
     abbrev ls : List (List ℕ)
     ls = take w.few x.records
 
-    was : (room_for (held room ls x).registers e ≡ true) × (decided p x ≡ Does e)
+    was : (room_for (held room ls x).registers e ≡ true) × (decided p x ≡ Ok e)
     was =
         room_does (held room ls x).registers (decided p x) e
         (sym (judged_room p (held room ls x).registers x.cells (length x.output))
         ∙ ap (λ (t : State). judged p t.registers t.memory.cells (length t.memory.output)) (sym w.holds.at) ∙ q)
 
-    holds_more : Holds room (more (ltb 0 room) w.few) (moves x (Does e)) (committed (state_of s) e)
+    holds_more : Holds room (more (ltb 0 room) w.few) (moves x (Ok e)) (committed (state_of s) e)
     holds_more =
         let good : Good p (plain x) = (run_reached w.far w.makes).good in
         let newest : List ℕ = record_of x.registers x.cells e in
@@ -157,10 +157,10 @@ module _ (p : Program) (o : State) (x₀ : Unbounded) (begins : Begins p o x₀)
           fits = subst (λ (l : List (List ℕ)). length (places_of l) ≤ room) (sym first) fits;
           at =
               ap (λ (t : State). committed t e) w.holds.at ∙ commit_held p room begins.short x good e was.1 ls fits
-              ∙ ap (λ (l : List (List ℕ)). held room l (moves x (Does e))) (sym first);
+              ∙ ap (λ (l : List (List ℕ)). held room l (moves x (Ok e))) (sym first);
         }
 
-    keep_does : Kept (stepped s (carried s.registers s.memory (Does e)))
+    keep_does : Kept (stepped s (carried s.registers s.memory (Ok e)))
     keep_does =
         record {
           far = suc w.far;
@@ -187,8 +187,8 @@ module _ (p : Program) (o : State) (x₀ : Unbounded) (begins : Begins p o x₀)
 
   keep_decided : (s : Session) → Kept s → (d : Decision) → judged p s.registers s.memory.cells (length s.memory.output) ≡ d
       → Kept (stepped s (carried s.registers s.memory d))
-  keep_decided s w (Does e) q = keep_does s w e q
-  keep_decided s w (Refuses y) q = unasked s w _ _ _ (omega arith) refl refl
+  keep_decided s w (Ok e) q = keep_does s w e q
+  keep_decided s w (Err y) q = unasked s w _ _ _ (omega arith) refl refl
 
   pub keep_step : (s : Session) → Kept s → Kept (ask p s step)
   keep_step s w =
@@ -213,13 +213,13 @@ module _ (p : Program) (o : State) (x₀ : Unbounded) (begins : Begins p o x₀)
       let e : Effect = m.1 in
       let newest : List ℕ = record_of x.registers x.cells e in
       let ls : List (List ℕ) = take j x.records in
-      let u : Holds room (suc j) (moves x (Does e)) (state_of s) = subst (λ (d : Decision). Holds room (suc j) (moves x d) (state_of s)) m.2 v in
+      let u : Holds room (suc j) (moves x (Ok e)) (state_of s) = subst (λ (d : Decision). Holds room (suc j) (moves x d) (state_of s)) m.2 v in
       let fits : length (places_of ls) ≤ room = omega (arith, length-append (places_of ls) newest, u.fits) in
       let keeps : true ≡ ltb 0 room = sym (lt-ltb 0 room some) in
       one k j (held room ls x) refl refl some m.0 (record { fits = fits; at = refl })
       (back_held p room begins.short x (run_reached k m.0).good e m.2 ls
       (subst (λ (b : Bool). length (places_of (added b newest ls)) ≤ room) keeps u.fits) some (good_reached k j m.0 fits) (state_of s)
-      (u.at ∙ ap (λ (b : Bool). held room (added b newest ls) (moves x (Does e))) keeps))
+      (u.at ∙ ap (λ (b : Bool). held room (added b newest ls) (moves x (Ok e))) keeps))
 
   pub back_on : (s : Session) (w : Kept s) → BackOn s w.far w.few
   back_on s w = back_at s w.far w.few w.makes w.kept w.holds

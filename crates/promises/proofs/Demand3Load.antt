@@ -1,5 +1,6 @@
 -- A load that is accepted leaves a machine that holds no record, and without its history is in a good state: sound, its cells of 32 bits, its output's rest zero. So
 -- it is where a series begins. Assumes nothing.
+use Rattle.std.specs.Prelude.{Ok, IsOk}
 use Prim.Native.Nat.{ℕ, zero, suc, ◌+◌, ◌-◌, ◌^◌, ◌<◌, zero-le}
 use mathlib.Core.Path.{◌≡◌, refl, sym, ap, ap₂, ◌∙◌}
 use mathlib.Core.Bool.{true}
@@ -16,7 +17,6 @@ use Rattle.rules.specs.Table.{Program}
 use Rattle.rules.specs.State.{Memory, sound_cells, range_tests, sound}
 use Rattle.rules.specs.SavedState.{head_width, saved_cell_layout, saved_cell_width, registers_in, column_in, cells_in, output_from, bytes_in, Loading, memory_in, loaded, entry, load}
 use Rattle.rules.specs.declared.Registers.{Registers}
-use Rattle.rules.specs.declared.Resumed.TheVariants.{Going}
 use Rattle.rules.proofs.Bits.{Bits, bits_drop, bits_bytes, part_most, bytes_length}
 use Rattle.rules.proofs.SavedState.{entry_facts, is_sound, load_done, AcceptedLoad, load_accepted}
 use Rattle.rules.proofs.Fair.{Sound}
@@ -95,7 +95,7 @@ held_loaded bits m m' same =
     }) (sym (sub-zero (length m.history))) same.output
 
 -- so it is where a series begins
-pub load_begins : (image : List ℕ) (p : Program) (m m' : Memory) → (load image p m).answer.resumed ≡ Going → (load image p m').answer.resumed ≡ Going → SameSizes m m'
+pub load_begins : (image : List ℕ) (p : Program) (m m' : Memory) → IsOk (load image p m).answer → IsOk (load image p m').answer → SameSizes m m'
     → Begins p (left_by_load (load image p m)) (fresh (left_by_load (load image p m')))
 unfolding registers_in
 load_begins image p m m' going going' same =
@@ -117,13 +117,13 @@ unfolding sound
 sound_sized p r c h h' o o' e f =
     ap₂ (λ (a b : ℕ). every (range_tests p r (length c.bits) (length c.tags) a b ++ (sound_cells p.count c.tags c.bits ∷ []))) e f
 
-pub load_sized : (image : List ℕ) (p : Program) (m m' : Memory) → (load image p m).answer.resumed ≡ Going → SameSizes m m' → length m.history ≡ length m'.history
+pub load_sized : (image : List ℕ) (p : Program) (m m' : Memory) → IsOk (load image p m).answer → SameSizes m m' → length m.history ≡ length m'.history
     → load image p m ≡ load image p m'
 load_sized image p m m' going same history =
     let a : AcceptedLoad image p m = load_accepted image p m going in
     let bits : List ℕ = bits_of image in
     let r : ℕ → Registers = λ h. registers_in h bits in
-    let enters : entry image (length m'.cells.bits) (length m'.cells.tags) (length m'.history) (length m'.output) ≡ Going =
+    let enters : entry image (length m'.cells.bits) (length m'.cells.tags) (length m'.history) (length m'.output) ≡ Ok tt =
     rw (sym same.bits, sym same.tags, sym history, sym same.output) a.enters in
     let judged : is_sound image p m' ≡ true =
     sym (ap (λ (h : ℕ). sound p (r h) (record { cells = cells_in (r h).n bits; history = m.history; output = m.output })) history
@@ -131,7 +131,7 @@ load_sized image p m m' going same history =
     ∙ a.judged in
     a.leaves
     ∙ ap₂ {C = Loading} (λ (h o : ℕ). record {
-      answer = record { resumed = Going; registers = r h };
+      answer = Ok (r h);
       memory = record { cells = cells_in (r h).n bits; history = replicate h 0; output = bytes_in (r h) bits ++ replicate (o - (r h).written) 0 };
     }) history same.output
     ∙ sym (load_done image p m' enters judged (rw (sym history) a.padding))

@@ -1,13 +1,12 @@
 -- Where a series begins: at a reset or at a load. Assumes nothing.
+use Rattle.std.specs.Prelude.{IsOk}
 use Prim.Native.Nat.{ℕ}
-use mathlib.Core.Path.{◌≡◌, refl, sym, subst, subst₂}
+use mathlib.Core.Path.{refl, sym, subst, subst₂}
 use mathlib.Core.List.{List}
 use Rattle.rules.specs.Table.{Program}
 use Rattle.rules.specs.State.{Memory}
 use Rattle.rules.specs.Reset as Reset
 use Rattle.rules.specs.SavedState as SavedState
-use Rattle.rules.specs.declared.Begun.TheVariants.{Ready}
-use Rattle.rules.specs.declared.Resumed.TheVariants.{Going}
 use Rattle.promises.specs.Unbounded.{Unbounded}
 use Rattle.promises.specs.Series.{State, left, left_by_load, SameStart, reset, load, fresh, Origin}
 use Rattle.promises.proofs.Demand3Held.{Begins}
@@ -30,10 +29,10 @@ pub one_origin : (p : Program) (s t : State) → SameStart p s t → Origin p s 
 one_origin p s t start = record { other = t; start = start; begins = refl }
 
 -- a reset and a load, each beside itself
-pub reset_origin : (p : Program) (m : Memory) → (Reset.reset p m).answer.begun ≡ Ready → Origin p (left (Reset.reset p m)) (fresh (left (Reset.reset p m)))
+pub reset_origin : (p : Program) (m : Memory) → IsOk (Reset.reset p m).answer → Origin p (left (Reset.reset p m)) (fresh (left (Reset.reset p m)))
 reset_origin p m ready = one_origin p _ _ (reset m m ready ready (own_sizes m) refl refl)
 
-pub load_origin : (p : Program) (image : List ℕ) (m : Memory) → (SavedState.load image p m).answer.resumed ≡ Going
+pub load_origin : (p : Program) (image : List ℕ) (m : Memory) → IsOk (SavedState.load image p m).answer
     → Origin p (left_by_load (SavedState.load image p m)) (fresh (left_by_load (SavedState.load image p m)))
 load_origin p image m going = one_origin p _ _ (load image m m going going (own_sizes m) refl refl)
 

@@ -1,5 +1,6 @@
 -- A reset that is accepted leaves a machine that holds no record, and without its history is in a good state: sound, its cells of 32 bits, its output zero. So
 -- it is where a series begins. Assumes nothing.
+use Rattle.std.specs.Prelude.{IsOk}
 use Prim.Native.Nat.{ℕ, ◌≤◌, zero-le}
 use mathlib.Core.Path.{◌≡◌, refl, sym, ap, ◌∙◌}
 use mathlib.Core.Bool.{Bool, true, false, cond}
@@ -15,9 +16,7 @@ use Rattle.rules.specs.Table.{Program, sound_table}
 use Rattle.rules.specs.Tags.{int}
 use Rattle.rules.specs.State.{Memory}
 use Rattle.rules.specs.Reset.{cleared, denied, size_tests, zeroed, begun, reset}
-use Rattle.rules.specs.declared.MachineRefusal.{MachineRefusal}
 use Rattle.rules.specs.declared.MachineRefusal.TheVariants.{Broken, OutsideSizes}
-use Rattle.rules.specs.declared.Begun.TheVariants.{Ready, NotReady}
 use Rattle.rules.proofs.Tests.{every_at}
 use Rattle.rules.proofs.Fair.{FairCell}
 use Rattle.rules.proofs.FairEffects.{fair_plain}
@@ -36,21 +35,21 @@ pub record Accepted (p : Program) (m : Memory) : Type 0 where
   pub table : sound_table p ≡ true
   pub leaves : reset p m ≡ begun m
 
-not_denied : {A : Type 0} (e : MachineRefusal) → NotReady e ≡ Ready → A
-not_denied e q = let z : ◌≡◌ {A = ℕ} 0 1 = cc in absurd (let y : ⊥ = omega arith in y)
+not_denied : {A : Type 0} → false ≡ true → A
+not_denied q = let z : ◌≡◌ {A = ℕ} 0 1 = cc in absurd (let y : ⊥ = omega arith in y)
 
-pub reset_accepted : (p : Program) (m : Memory) → (reset p m).answer.begun ≡ Ready → Accepted p m
+pub reset_accepted : (p : Program) (m : Memory) → IsOk (reset p m).answer → Accepted p m
 unfolding reset
 reset_accepted p m = go (every (size_tests m)) refl (sound_table p) refl
   where
     go : (a : Bool) → every (size_tests m) ≡ a → (b : Bool) → sound_table p ≡ b
-        → (cond a (cond b (begun m) (denied m Broken)) (denied m OutsideSizes)).answer.begun ≡ Ready → Accepted p m
+        → IsOk (cond a (cond b (begun m) (denied m Broken)) (denied m OutsideSizes)).answer → Accepted p m
     go true x true y q = record { sizes = x; table = y; leaves = rw (x, y) refl }
-    go true x false y q = not_denied Broken q
-    go false x b y q = not_denied OutsideSizes q
+    go true x false y q = not_denied q
+    go false x b y q = not_denied q
 
 -- and a reset is accepted wherever they pass, so that demand 3's premise is met by every sound table and all lent memory within "Sizes"
-pub reset_ready : (p : Program) (m : Memory) → every (size_tests m) ≡ true → sound_table p ≡ true → (reset p m).answer.begun ≡ Ready
+pub reset_ready : (p : Program) (m : Memory) → every (size_tests m) ≡ true → sound_table p ≡ true → IsOk (reset p m).answer
 unfolding reset
 reset_ready p m sizes table = rw (sizes, table) refl
 
@@ -64,7 +63,7 @@ own_sizes m = record { bits = refl; tags = refl; output = refl }
 begun_sized : (m m' : Memory) → SameSizes m m' → length m.history ≡ length m'.history → begun m ≡ begun m'
 begun_sized m m' same history = rw (same.bits, same.tags, history, same.output)
 
-pub reset_sized : (p : Program) (m m' : Memory) → (reset p m).answer.begun ≡ Ready → SameSizes m m' → length m.history ≡ length m'.history
+pub reset_sized : (p : Program) (m m' : Memory) → IsOk (reset p m).answer → SameSizes m m' → length m.history ≡ length m'.history
     → reset p m ≡ reset p m'
 reset_sized p m m' ready same history =
     let a : Accepted p m = reset_accepted p m ready in
@@ -117,7 +116,7 @@ held_begun m m' same =
     ∙ rw (same.bits, same.tags, same.output) refl
 
 -- so it is where a series begins
-pub reset_begins : (p : Program) (m m' : Memory) → (reset p m).answer.begun ≡ Ready → (reset p m').answer.begun ≡ Ready → SameSizes m m'
+pub reset_begins : (p : Program) (m m' : Memory) → IsOk (reset p m).answer → IsOk (reset p m').answer → SameSizes m m'
     → Begins p (left (reset p m)) (fresh (left (reset p m')))
 reset_begins p m m' ready ready' same =
     let a : Accepted p m = reset_accepted p m ready in

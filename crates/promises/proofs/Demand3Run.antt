@@ -1,5 +1,6 @@
 -- The unbounded run: each state that its accepted steps reach is that of a machine of no history in a good state, and each of its records is well formed.
 -- Assumes nothing.
+use Rattle.std.specs.Prelude.{Ok, Err}
 use Prim.Native.Nat.{ℕ, zero, suc, ◌≤◌}
 use mathlib.Core.Path.{◌≡◌, refl, sym, ap, ◌∙◌, subst}
 use mathlib.Core.List.{[]}
@@ -7,8 +8,7 @@ use native.Mathlib.Omega.{arith}
 use lib.ListN.{length}
 use Rattle.rules.specs.Table.{Program}
 use Rattle.rules.specs.declared.Effect.{Effect}
-use Rattle.rules.specs.declared.Decision.{Decision}
-use Rattle.rules.specs.declared.Decision.TheVariants.{Does, Refuses}
+use Rattle.rules.specs.Answers.{Decision}
 use Rattle.rules.proofs.Fair.{Sound, Going, Fair}
 use Rattle.rules.proofs.FairEffects.{sound_facts, judged_going, going_below, fair_judged}
 use Rattle.rules.proofs.Formed.{record_formed}
@@ -20,11 +20,11 @@ use Rattle.promises.proofs.Demand3Good.{Good, good_committed}
 -- each of the first k steps is accepted
 abbrev pub Makes : Program → Unbounded → ℕ → Type 0
 Makes p x zero = Unit {0}
-Makes p x (suc k) = Makes p x k × (e : Effect) × (decided p (moved p k x) ≡ Does e)
+Makes p x (suc k) = Makes p x k × (e : Effect) × (decided p (moved p k x) ≡ Ok e)
 
 -- what an accepted step makes
-module _ (p : Program) (x : Unbounded) (good : Good p (plain x)) (e : Effect) (q : decided p x ≡ Does e) where
-  pub good_moves : Good p (plain (moves x (Does e)))
+module _ (p : Program) (x : Unbounded) (good : Good p (plain x)) (e : Effect) (q : decided p x ≡ Ok e) where
+  pub good_moves : Good p (plain (moves x (Ok e)))
   good_moves = good_committed p (plain x) good e q
 
   made_sound : Sound p (plain x).registers (plain x).memory
@@ -36,7 +36,7 @@ module _ (p : Program) (x : Unbounded) (good : Good p (plain x)) (e : Effect) (q
   pub made_fair : Fair p (plain x).registers e
   made_fair = fair_judged p (plain x).registers (plain x).memory e good.sound q
 
-  pub formed_moves : AllFormed x.registers.n p.count x.records → AllFormed x.registers.n p.count (moves x (Does e)).records
+  pub formed_moves : AllFormed x.registers.n p.count x.records → AllFormed x.registers.n p.count (moves x (Ok e)).records
   formed_moves f = (
     record_formed p (plain x).registers (plain x).memory e made_sound good.narrow
         (going_below p (plain x).registers (plain x).memory e made_sound made_going) made_fair.fits,
@@ -67,8 +67,8 @@ no_more_records p x none zero = omega (arith, ap length none)
 no_more_records p x none (suc k) = go (decided p (moved p k x)) (no_more_records p x none k)
   where
     go : (d : Decision) → length (moved p k x).records ≤ k → length (moves (moved p k x) d).records ≤ suc k
-    go (Does e) h = omega (arith, h)
-    go (Refuses y) h = omega (arith, h)
+    go (Ok e) h = omega (arith, h)
+    go (Err y) h = omega (arith, h)
 
 pub all_made : (p : Program) (x : Unbounded) → x.records ≡ [] → (k : ℕ) → length (moved p k x).records ≡ k → Makes p x k
 all_made p x none zero e = tt
@@ -76,5 +76,5 @@ all_made p x none (suc k) e = go (decided p (moved p k x)) refl e (all_made p x 
   where
     go : (d : Decision) → decided p (moved p k x) ≡ d → length (moves (moved p k x) d).records ≡ suc k
         → (length (moved p k x).records ≡ k → Makes p x k) → length (moved p k x).records ≤ k → Makes p x (suc k)
-    go (Does f) q l before few = (before (omega (arith, l)), f, q)
-    go (Refuses y) q l before few = absurd (let z : ⊥ = omega (arith, l, few) in z)
+    go (Ok f) q l before few = (before (omega (arith, l)), f, q)
+    go (Err y) q l before few = absurd (let z : ⊥ = omega (arith, l, few) in z)

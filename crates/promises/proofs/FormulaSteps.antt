@@ -1,5 +1,6 @@
 -- Request m: what the instructions of a formula's code decide, on INTs; what a step leaves that pushes a result; and that unary minus is a product with -1. Assumes
 -- nothing.
+use Rattle.std.specs.Prelude.{Ok, Err}
 use Prim.Native.Nat.{ℕ, zero, suc, ◌+◌, ◌-◌, ◌*◌, ◌^◌, ◌≤◌, ◌<◌}
 use mathlib.Core.Path.{◌≡◌, refl, ap, ap₂, ◌∙◌}
 use mathlib.Core.Bool.{Bool, true, false}
@@ -34,8 +35,7 @@ use Rattle.rules.specs.declared.Operator.TheVariants.{Add, Subtract, Multiply, D
 use Rattle.rules.specs.declared.Cell.{Cell}
 use Rattle.rules.specs.declared.Registers.{Registers}
 use Rattle.rules.specs.declared.Effect.{Effect}
-use Rattle.rules.specs.declared.Decision.{Decision}
-use Rattle.rules.specs.declared.Decision.TheVariants.{Does, Refuses}
+use Rattle.rules.specs.Answers.{Decision}
 use Rattle.rules.specs.declared.MachineRefusal.{MachineRefusal}
 use Rattle.rules.specs.declared.MachineRefusal.TheVariants.{NoResult}
 use Rattle.rules.proofs.Tests.{by_test}
@@ -49,25 +49,25 @@ use Rattle.promises.proofs.FormulaTables.{code_of_place, operand_of_place}
 -- ---- the decisions
 module _ (r : Registers) (c : Cells) where
   -- PUSHIMM
-  pub decide_number : (n : ℕ) → n < 2 ^ 32 → decide_at r c (push_number n) ≡ Does (result r 0 (int n))
+  pub decide_number : (n : ℕ) → n < 2 ^ 32 → decide_at r c (push_number n) ≡ Ok (result r 0 (int n))
   unfolding decide_at decide action_of row_of rows
   decide_number n h = rw (code_of_place 1 n h, operand_of_place 1 n h)
 
   -- PUSHOFF
-  pub decide_name : (k : ℕ) → k < name_cells → r.fbr ≡ 0 → k < r.sp → decide_at r c (push_name k) ≡ Does (result r 0 (cell_at c (record { 0 = k })))
+  pub decide_name : (k : ℕ) → k < name_cells → r.fbr ≡ 0 → k < r.sp → decide_at r c (push_name k) ≡ Ok (result r 0 (cell_at c (record { 0 = k })))
   unfolding decide_at decide action_of row_of rows
   decide_name k h f l =
       rw (code_of_place 42 k (omega arith), operand_of_place 42 k (omega arith), f, signed_plus k (omega arith), zero-add k, lt-ltb k r.sp l)
 
   -- STOP
-  pub decide_stop : decide_at r c stop ≡ Does (halted r)
+  pub decide_stop : decide_at r c stop ≡ Ok (halted r)
   unfolding decide_at decide action_of row_of rows
   decide_stop = refl
 
   -- the decision of an operator whose two sides give the value
   abbrev pub operated : Value → Decision
-  operated (value v) = Does (result r 2 (int v))
-  operated no_value = Refuses NoResult
+  operated (value v) = Ok (result r 2 (int v))
+  operated no_value = Err NoResult
 
   -- ADD, SUB, TIMES, DIV on two INTs
   pub decide_joined : (o : Operator) (b t : ℕ) → 2 ≤ r.sp → cell_at c (record { 0 = r.sp - 2 }) ≡ int b → cell_at c (record { 0 = r.sp - 1 }) ≡ int t
@@ -90,8 +90,8 @@ decided_at p s = decide_at s.registers s.memory.cells (get_or p.places s.registe
 
 module _ (p : Program) (s : State) (running : s.registers.halt ≡ 0) (inside : s.registers.pc < p.count) where
   -- with room for the new SP, for what is shown and for the record
-  pub judged_does : (e : Effect) → decided_at p s ≡ Does e → e.sp < s.registers.n → room_on (length s.memory.output) s.registers.written e.shows ≡ true
-      → room_for s.registers e ≡ true → judged_at p s ≡ Does e
+  pub judged_does : (e : Effect) → decided_at p s ≡ Ok e → e.sp < s.registers.n → room_on (length s.memory.output) s.registers.written e.shows ≡ true
+      → room_for s.registers e ≡ true → judged_at p s ≡ Ok e
   unfolding judged
   judged_does e d sp panel room =
       rw (
@@ -103,7 +103,7 @@ module _ (p : Program) (s : State) (running : s.registers.halt ≡ 0) (inside : 
         room,
       )
 
-  pub judged_refuses : (x : MachineRefusal) → decided_at p s ≡ Refuses x → judged_at p s ≡ Refuses x
+  pub judged_refuses : (x : MachineRefusal) → decided_at p s ≡ Err x → judged_at p s ≡ Err x
   unfolding judged
   judged_refuses x d =
       rw (eq-eqb s.registers.halt 0 running, ne_eqb s.registers.pc p.count (λ q. let z : ⊥ = omega arith in z), d)

@@ -1,5 +1,6 @@
 -- Request m: the text of a tree is translated to the code of that tree, where its numbers and names, its nesting and its cost are within their bounds. So the call
 -- turns no such tree away, and reads what the words of the request say. Assumes nothing.
+use Rattle.std.specs.Prelude.{Ok}
 use Prim.Native.Nat.{ℕ, zero, suc, ◌+◌, ◌≤◌, max}
 use mathlib.Core.Path.{◌≡◌, refl, sym, ap, ◌∙◌}
 use mathlib.Core.Bool.{Bool, true, false, cond}
@@ -12,7 +13,6 @@ use Rattle.rules.specs.Grammar.{Tree, number, name, negative, joined, Token, dig
 use Rattle.rules.specs.Translate.{cost, depth, table_for, Translation, translation}
 use Rattle.rules.specs.declared.Operator.{Operator}
 use Rattle.rules.specs.declared.Operator.TheVariants.{Add, Subtract, Multiply, Divide}
-use Rattle.rules.specs.declared.Translated.TheVariants.{Sized}
 use Rattle.formula.specs.Trees.{Proper}
 use Rattle.formula.proofs.Readings.{Lettered, GoodReader, deepest, operand_good, chained_good}
 use Rattle.formula.proofs.Costs.{program_length, then_parsed}
@@ -223,5 +223,5 @@ every_tree_translated t b =
           λ lent right.
           then_parsed (text_of t) lent (eq-eqb (length lent) max_program right) (le-leb (length (text_of t)) max_source short)
           ∙ ap (translation lent) (text_read t b)
-          ∙ ap {B = Translation} (λ (n : ℕ). record { answer = Sized n (depth t); table = table_for t }) (program_length t);
+          ∙ ap {B = Translation} (λ (n : ℕ). record { answer = Ok (record { length = n; depth = depth t }); table = table_for t }) (program_length t);
     }

@@ -1,5 +1,6 @@
 -- Request m: the code of a formula's tree, from any place of the program and any SP, by induction over the tree: its steps leave its value on top, the cells below
 -- as they were, and the highest SP on the way is the tree's depth above the first; where it divides by zero, they come to a 5. Assumes nothing.
+use Rattle.std.specs.Prelude.{Ok, Err}
 use Prim.Native.Nat.{ℕ, zero, suc, ◌+◌, ◌-◌, ◌*◌, ◌^◌, ◌≤◌, ◌<◌, max}
 use mathlib.Core.Path.{◌≡◌, refl, sym, ap, ◌∙◌, subst, subst₂}
 use mathlib.Core.Bool.{true}
@@ -24,8 +25,7 @@ use Rattle.rules.specs.declared.Operator.TheVariants.{Multiply}
 use Rattle.rules.specs.declared.Cell.{Cell}
 use Rattle.rules.specs.declared.Registers.{Registers}
 use Rattle.rules.specs.declared.Effect.{Effect}
-use Rattle.rules.specs.declared.Decision.{Decision}
-use Rattle.rules.specs.declared.Decision.TheVariants.{Does, Refuses}
+use Rattle.rules.specs.Answers.{Decision}
 use Rattle.rules.specs.declared.MachineRefusal.TheVariants.{NoResult}
 use Rattle.rules.proofs.Fair.{Sound}
 use Rattle.rules.proofs.FairEffects.{sound_facts}
@@ -44,7 +44,7 @@ use Rattle.promises.proofs.FormulaSteps.{decide_number, decide_name, operated, d
 abbrev pub Goes : Program → (k top : ℕ) → State → State → Type 0
 Goes p zero top s s'' = (top ≡ s.registers.sp) × (s ≡ s'')
 Goes p (suc k) top s s'' =
-    (e : Effect) × (rest : ℕ) × (judged_at p s ≡ Does e) × (top ≡ max s.registers.sp rest) × Goes p k rest (committed s e) s''
+    (e : Effect) × (rest : ℕ) × (judged_at p s ≡ Ok e) × (top ≡ max s.registers.sp rest) × Goes p k rest (committed s e) s''
 
 pub goes_start : (p : Program) (k top : ℕ) (s s'' : State) → Goes p k top s s'' → s.registers.sp ≤ top
 goes_start p zero top s s'' g = omega (arith, g.0)
@@ -77,7 +77,7 @@ way_then {p} {s} a b =
     }
 
 -- one step
-unfoldable pub way_one : {p : Program} {s : State} (e : Effect) → judged_at p s ≡ Does e → Way p s
+unfoldable pub way_one : {p : Program} {s : State} (e : Effect) → judged_at p s ≡ Ok e → Way p s
 way_one {p} {s} e j = record { steps = 1; high = max s.registers.sp e.sp; end = committed s e; goes = (e, e.sp, j, refl, (refl, refl)) }
 
 untouched_then : {low₁ low₂ : ℕ} {s₁ s₂ s₃ : State} (low : ℕ) → Untouched low₁ s₁ s₂ → Untouched low₂ s₂ s₃ → low ≤ low₁ → low ≤ low₂
@@ -162,12 +162,12 @@ pub record Stops (p : Program) (s : State) (most top low : ℕ) : Type 0 where
   pub below : way.high ≤ top
   pub healthy : sound p way.end.registers way.end.memory ≡ true
   pub running : way.end.registers.halt ≡ 0
-  pub refuses : judged_at p way.end ≡ Refuses NoResult
+  pub refuses : judged_at p way.end ≡ Err NoResult
   pub rest : Untouched low s way.end
 
 -- ---- one instruction that pushes a result: k values are popped, to `low`
 pushes : {p : Program} {names : ℕ → ℕ} {s : State} {n pc sp free : ℕ} (k low : ℕ) (c : Cell) (w top : ℕ) → Here p names s n pc sp (2 + free)
-    → get_or p.places pc 0 ≡ w → pc < p.count → decide_at s.registers s.memory.cells w ≡ Does (result s.registers k c) → low + k ≡ sp
+    → get_or p.places pc 0 ≡ w → pc < p.count → decide_at s.registers s.memory.cells w ≡ Ok (result s.registers k c) → low + k ≡ sp
     → name_cells ≤ low → low + 1 < n → max sp (low + 1) ≡ top → Then p names s 1 top n (pc + 1) free low c
 unfolding way_one
 pushes {p} {names} {s} {n} {pc} {sp} {free} k low c w top h at inside d popped enough fits high =
@@ -178,7 +178,7 @@ pushes {p} {names} {s} {n} {pc} {sp} {free} k low c w top h at inside d popped e
     let hp : r.pc ≡ pc = h.at in
     let there : r.sp - k ≡ low = omega arith in
     let f : Sound p r s.memory = sound_facts p r s.memory h.healthy in
-    let j : judged_at p s ≡ Does e =
+    let j : judged_at p s ≡ Ok e =
     judged_does p s h.running (omega arith) e
     (ap (λ (i : ℕ). decide_at r s.memory.cells (get_or p.places i 0)) hp ∙ ap (decide_at r s.memory.cells) at ∙ d)
     (omega arith) refl (free_room r e (λ z. let l = h.room z in omega arith)) in
@@ -240,7 +240,7 @@ module _ {p : Program} {names : ℕ → ℕ} {s : State} {k₁ top₁ n pc₁ fr
       }
 
   -- the instruction after it has no result
-  then_refuses : (most top : ℕ) → judged_at p q.way.end ≡ Refuses NoResult → k₁ < most → top₁ ≤ top → Stops p s most top low
+  then_refuses : (most top : ℕ) → judged_at p q.way.end ≡ Err NoResult → k₁ < most → top₁ ≤ top → Stops p s most top low
   then_refuses most top j ek et =
       record {
         way = q.way;
@@ -281,7 +281,7 @@ module _ (p : Program) (names : ℕ → ℕ) (n : ℕ) (words : (k : ℕ) → k 
 
   abbrev Operated : State → (pc sp free : ℕ) → Value → Type 0
   Operated s pc sp free (value v) = Then p names s 1 (sp + 2) n (pc + 1) free sp (int v)
-  Operated s pc sp free no_value = judged_at p s ≡ Refuses NoResult
+  Operated s pc sp free no_value = judged_at p s ≡ Err NoResult
 
   module _ (o : Operator) (s : State) (pc sp free b t : ℕ) (h : Here p names s n pc (sp + 1 + 1) (2 + free)) (low : name_cells ≤ sp) (fits : sp + 1 < n)
       (at : get_or p.places pc 0 ≡ operation o) (inside : pc < p.count) (hb : cell_at s.memory.cells (record { 0 = sp }) ≡ int b)
@@ -319,7 +319,7 @@ module _ (p : Program) (names : ℕ → ℕ) (n : ℕ) (words : (k : ℕ) → k 
   name_works k proper s pc sp free h low fits lies =
       pushes 0 sp (int (names k)) (push_name k) (sp + 1) h lies.0 lies.1
       (decide_name s.registers s.memory.cells k proper h.fbr (omega (arith, h.height))
-      ∙ ap (λ (c : Cell). Does (result s.registers 0 c)) (h.named k proper)) (omega arith) low fits (omega arith)
+      ∙ ap (λ (c : Cell). Ok (result s.registers 0 c)) (h.named k proper)) (omega arith) low fits (omega arith)
 
   -- TIMES, behind the operand of unary minus and -1
   negative_last : (t : Tree) (s : State) (pc sp free b : ℕ) → name_cells ≤ sp → sp + depth (negative t) < n → Lies p (pc + cost t) negation → b < 2 ^ 32

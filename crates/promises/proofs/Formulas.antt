@@ -1,5 +1,6 @@
 -- Request m: the program of a formula, run where it is ready, leaves the formula's number on top, or meets 5 where the formula divides by zero; and the told depth is
 -- the most values that it holds. Assumes nothing.
+use Rattle.std.specs.Prelude.{Ok, Err}
 use Prim.Native.Nat.{ℕ, zero, suc, ◌+◌, ◌-◌, ◌*◌, ◌^◌, ◌≤◌, ◌<◌, max, zero-le}
 use mathlib.Core.Path.{◌≡◌, refl, sym, ap, ◌∙◌, subst, subst₂}
 use mathlib.Core.Bool.{true, false}
@@ -10,6 +11,8 @@ use native.Mathlib.Omega.{arith}
 use lib.Dec.{eqb, leb}
 use lib.ListN.{length, get_or, replicate, length-append, length-replicate, get_or-append}
 use borrow.Author.Tests.{ne_eqb, le-leb, leb-true, leb-false}
+use Rattle.rules.specs.Answers.{Formulated}
+use Rattle.rules.specs.Numbers.{length_of_translated, depth_of_translated}
 use Rattle.rules.specs.Sizes.{max_source, max_program, max_history, max_limit, name_cells}
 use Rattle.rules.specs.Tags.{INT, int}
 use Rattle.rules.specs.Table.{Program}
@@ -23,13 +26,11 @@ use Rattle.rules.specs.Grammar.{Tree, Parsed, formula, unfit, parse}
 use Rattle.rules.specs.Evaluate.{Value, value, no_value, worth}
 use Rattle.rules.specs.Translate.{stop, code_for, instructions_for, cost, depth, table_for, program_for, Translation, translation, translate}
 use Rattle.rules.specs.declared.Effect.{Effect}
-use Rattle.rules.specs.declared.Decision.TheVariants.{Does, Refuses}
 use Rattle.rules.specs.declared.MachineRefusal.{MachineRefusal}
 use Rattle.rules.specs.declared.MachineRefusal.TheVariants.{AlreadyHalted, NoResult}
 use Rattle.rules.specs.declared.Ending.TheVariants.{Halted, Stopped}
 use Rattle.rules.specs.declared.FormulaRefusal.{FormulaRefusal}
 use Rattle.rules.specs.declared.FormulaRefusal.TheVariants.{TableLength, FormulaTooLong}
-use Rattle.rules.specs.declared.Translated.TheVariants.{Sized, NotTranslated}
 use Rattle.rules.proofs.Tests.{by_test}
 use Rattle.rules.proofs.Zeros.{zeros_at_lem}
 use Rattle.rules.proofs.FairEffects.{fair_plain, judged_going}
@@ -62,9 +63,9 @@ module _ (p : Program) where
       ∙ (λ i. run_from p left (sym (add-zero made) i) (g.1 i).registers (g.1 i).memory)
   run_goes (suc k) top left made s s'' h g =
       let e : Effect = g.0 in
-      let j : judged_at p s ≡ Does e = g.2 in
+      let j : judged_at p s ≡ Ok e = g.2 in
       let t : State = committed s e in
-      let one : step_of s ≡ carried s.registers s.memory (Does e) = step_judged p s h (Does e) j in
+      let one : step_of s ≡ carried s.registers s.memory (Ok e) = step_judged p s h (Ok e) j in
       let running : s.registers.halt ≡ 0 = (judged_going p s.registers s.memory e j).running in
       let going : eqb s.registers.halt 1 ≡ false = ne_eqb s.registers.halt 1 (λ q. let z : ⊥ = omega arith in z) in
       let count : made + 1 + k ≡ made + suc k = omega arith in
@@ -79,25 +80,25 @@ module _ (p : Program) where
   sp_from k a s = (series p (replicate k step) (standing a s.registers s.memory)).registers.sp
 
   -- one step first
-  sp_first : (k a : ℕ) (s : State) (e : Effect) → SoundAt s → judged_at p s ≡ Does e → sp_from (suc k) a s ≡ sp_from k (a + 1) (committed s e)
+  sp_first : (k a : ℕ) (s : State) (e : Effect) → SoundAt s → judged_at p s ≡ Ok e → sp_from (suc k) a s ≡ sp_from k (a + 1) (committed s e)
   unfolding sp_from
   sp_first k a s e h j =
-      ap (λ (o : Stepped). (series p (replicate k step) (stepped (standing a s.registers s.memory) o)).registers.sp) (step_judged p s h (Does e) j)
+      ap (λ (o : Stepped). (series p (replicate k step) (stepped (standing a s.registers s.memory) o)).registers.sp) (step_judged p s h (Ok e) j)
 
   -- where a step is refused, SP stays
-  sp_stays : (x : MachineRefusal) (s : State) → SoundAt s → judged_at p s ≡ Refuses x → (k a : ℕ) → sp_from k a s ≡ s.registers.sp
+  sp_stays : (x : MachineRefusal) (s : State) → SoundAt s → judged_at p s ≡ Err x → (k a : ℕ) → sp_from k a s ≡ s.registers.sp
   unfolding sp_from
   sp_stays x s h j zero a = refl
   sp_stays x s h j (suc k) a =
-      ap (λ (o : Stepped). (series p (replicate k step) (stepped (standing a s.registers s.memory) o)).registers.sp) (step_judged p s h (Refuses x) j)
+      ap (λ (o : Stepped). (series p (replicate k step) (stepped (standing a s.registers s.memory) o)).registers.sp) (step_judged p s h (Err x) j)
       ∙ sp_stays x s h j k (a + 0)
 
   -- no step goes higher, where the next is refused
-  never_above : (x : MachineRefusal) (k top : ℕ) (s s'' : State) → SoundAt s → Goes p k top s s'' → judged_at p s'' ≡ Refuses x → (j a : ℕ) → sp_from j a s ≤ top
+  never_above : (x : MachineRefusal) (k top : ℕ) (s s'' : State) → SoundAt s → Goes p k top s s'' → judged_at p s'' ≡ Err x → (j a : ℕ) → sp_from j a s ≤ top
   unfolding sp_from
   never_above x k top s s'' h g f zero a = goes_start p k top s s'' g
   never_above x zero top s s'' h g f (suc j) a =
-      let f' : judged_at p s ≡ Refuses x = subst (λ (t : State). judged_at p t ≡ Refuses x) (sym g.1) f in
+      let f' : judged_at p s ≡ Err x = subst (λ (t : State). judged_at p t ≡ Err x) (sym g.1) f in
       omega (arith, g.0, sp_stays x s h f' (suc j) a)
   never_above x (suc k) top s s'' h g f (suc j) a =
       let e : Effect = g.0 in
@@ -175,7 +176,7 @@ module _ (t : Tree) (ok : Accepted t) (s : State) (ready : Ready (program_for t)
     abbrev last : Effect
     last = halted before.registers
 
-    stopping : judged_at p before ≡ Does last
+    stopping : judged_at p before ≡ Ok last
     stopping =
         let at : before.registers.pc ≡ 0 + length (code_for t) = q.here.at ∙ ap (λ (k : ℕ). 0 + k) (sym (code_length t)) in
         judged_does p before q.here.running (omega (arith, lies.1.1)) last
@@ -213,7 +214,7 @@ module _ (t : Tree) (ok : Accepted t) (s : State) (ready : Ready (program_for t)
           rest = record { cells = q.rest.cells; output = q.rest.output; written = q.rest.written };
         })
 
-    halted_now : judged_at p after ≡ Refuses AlreadyHalted
+    halted_now : judged_at p after ≡ Err AlreadyHalted
     unfolding judged
     halted_now = refl
 
@@ -239,7 +240,7 @@ module _ (t : Tree) (ok : Accepted t) (s : State) (ready : Ready (program_for t)
         let going : eqb w.way.end.registers.halt 1 ≡ false = ne_eqb w.way.end.registers.halt 1 (λ q. let z : ⊥ = omega arith in z) in
         run_way w.way limit (suc left) short all
         ∙ run_refused p (0 + w.way.steps) w.way.end.registers w.way.end.memory left going NoResult
-        (ap (λ (o : Stepped). o.answer) (step_judged p w.way.end w.healthy (Refuses NoResult) w.refuses))
+        (ap (λ (o : Stepped). o.answer) (step_judged p w.way.end w.healthy (Err NoResult) w.refuses))
 
     meets : (limit : ℕ) → length (instructions_for t) ≤ limit → limit ≤ max_limit → MeetsFive s (Run.run p limit s.registers s.memory)
     meets limit long short = subst (MeetsFive s) (sym (stops limit long short)) (record { number = refl; rest = w.rest })
@@ -358,20 +359,20 @@ module _ (source : List ℕ) where
   module _ (lent : List ℕ) (count deep : ℕ) where
     -- of a translation, where it tells so many instructions and that depth
     abbrev Told : Translation → Type 0
-    Told a = a.answer ≡ Sized count deep → WorkedOut source a.table count deep
+    Told a = a.answer ≡ Ok (record { length = count; depth = deep }) → WorkedOut source a.table count deep
 
-    told_not : {A : Type 0} (e : FormulaRefusal) → NotTranslated e ≡ Sized count deep → A
+    told_not : {A : Type 0} (e : FormulaRefusal) → ◌≡◌ {A = Formulated} (Err e) (Ok (record { length = count; depth = deep })) → A
     told_not e q = let z : ◌≡◌ {A = ℕ} 0 1 = cc in absurd (let y : ⊥ = omega arith in y)
 
     told_parsed : (x : Parsed) → parse source ≡ x → Told (translation lent x)
     told_parsed (formula t) h q =
-        let size : length (instructions_for t) ≡ count = cc in
-        let high : depth t ≡ deep = cc in
+        let size : length (instructions_for t) ≡ count = ap length_of_translated q in
+        let high : depth t ≡ deep = ap depth_of_translated q in
         subst₂ (λ (n d : ℕ). WorkedOut source (table_for t) n d) size high (tree_worked_out t h)
     told_parsed (unfit e) h q = told_not e q
 
     -- which is so where it is refused neither by 31, nor by 21, nor by its text
-    pub worked_out : (translate source lent).answer ≡ Sized count deep → WorkedOut source (translate source lent).table count deep
+    pub worked_out : (translate source lent).answer ≡ Ok (record { length = count; depth = deep }) → WorkedOut source (translate source lent).table count deep
     worked_out =
         by_test (eqb (length lent) max_program)
         (λ e.

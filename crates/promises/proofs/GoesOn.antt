@@ -1,5 +1,6 @@
 -- Request k: a session that is saved, and loaded again under the same program beside an output of the same length, goes on as the first does until one of them has no
 -- room in its history. Assumes nothing.
+use Rattle.std.specs.Prelude.{Option, Some, None, Ok, Err}
 use Prim.Native.Nat.{ℕ, zero, suc, ◌+◌, ◌-◌, ◌<◌, zero-le}
 use mathlib.Core.Path.{◌≡◌, refl, sym, ap, ap₂, ◌∙◌, subst}
 use mathlib.Core.Bool.{Bool, true}
@@ -20,11 +21,8 @@ use Rattle.rules.specs.Step.{Stepped, judged, in_history, carried, plain_step}
 use Rattle.rules.specs.Step as Step
 use Rattle.rules.specs.SavedState.{save, load}
 use Rattle.rules.specs.declared.Registers.{Registers}
-use Rattle.rules.specs.declared.Shown.{Shown}
-use Rattle.rules.specs.declared.Shown.TheVariants.{Nothing, Byte}
 use Rattle.rules.specs.declared.Effect.{Effect}
-use Rattle.rules.specs.declared.Decision.{Decision}
-use Rattle.rules.specs.declared.Decision.TheVariants.{Does, Refuses}
+use Rattle.rules.specs.Answers.{Decision}
 use Rattle.rules.specs.declared.MachineRefusal.TheVariants.{HistoryFull}
 use Rattle.rules.proofs.Tests.{by_test}
 use Rattle.rules.proofs.Fair.{Sound}
@@ -58,8 +56,8 @@ module _ (p : Program) where
   sound_after s h = subst (λ (a : Stepped). SoundAt (after s a)) (sym (step_plain p s.registers s.memory h)) (go (judged p s.registers s.memory.cells (length s.memory.output)) refl)
     where
       go : (d : Decision) → judged p s.registers s.memory.cells (length s.memory.output) ≡ d → SoundAt (after s (carried s.registers s.memory d))
-      go (Does e) q = sound_judged p s.registers s.memory e h q
-      go (Refuses x) q = h
+      go (Ok e) q = sound_judged p s.registers s.memory e h q
+      go (Err x) q = h
 
   -- two machines in sound states that show the same
   record Twins (s t : State) : Type 0 where
@@ -89,16 +87,16 @@ module _ (p : Program) where
     steps_other = steps_roomed p x t w.other (sym w.same.registers) (sym w.same.cells) (sym w.same.size)
 
     -- where it is done, it is refused for want of room alone
-    done_by : (u : State) → StepsBy u → (e : Effect) → decided p x ≡ Does e → NotEight (step_of p u).answer → step_of p u ≡ carried u.registers u.memory (Does e)
+    done_by : (u : State) → StepsBy u → (e : Effect) → decided p x ≡ Ok e → NotEight (step_of p u).answer → step_of p u ≡ carried u.registers u.memory (Ok e)
     done_by u steps e q room =
         by_test (room_for u.registers e)
         (λ b. decides b)
         (λ b. absurd (room (ap (λ (a : Stepped). number_of_step a.answer) (decides b))))
       where
-        decides : {b : Bool} → room_for u.registers e ≡ b → step_of p u ≡ carried u.registers u.memory (demand b HistoryFull (Does e))
+        decides : {b : Bool} → room_for u.registers e ≡ b → step_of p u ≡ carried u.registers u.memory (demand b HistoryFull (Ok e))
         decides f =
             steps ∙ ap (λ (d : Decision). carried u.registers u.memory (in_history u.registers d)) q
-            ∙ ap (λ (c : Bool). carried u.registers u.memory (demand c HistoryFull (Does e))) f
+            ∙ ap (λ (c : Bool). carried u.registers u.memory (demand c HistoryFull (Ok e))) f
 
     count_same : s.registers.written ≡ t.registers.written
     count_same = ap (λ (r : Registers). r.written) w.same.registers
@@ -118,11 +116,11 @@ module _ (p : Program) where
               ∙ ap (λ (k : ℕ). take (written_after e.shows s.registers.written) (output_after e.shows k t.memory.output)) count_same;
         }
       where
-        go : (y : Shown) → room_on (length s.memory.output) s.registers.written y ≡ true
+        go : (y : Option ℕ) → room_on (length s.memory.output) s.registers.written y ≡ true
             → take (written_after y s.registers.written) (output_after y s.registers.written s.memory.output)
             ≡ take (written_after y s.registers.written) (output_after y s.registers.written t.memory.output)
-        go Nothing q = w.same.written
-        go (Byte b) q =
+        go None q = w.same.written
+        go (Some b) q =
             let n : ℕ = s.registers.written in
             let low : n < length s.memory.output = ltb-true _ _ q in
             ap (λ (k : ℕ). take k (set s.memory.output n b)) (add-one n) ∙ take-suc-set s.memory.output n b low
@@ -142,11 +140,11 @@ module _ (p : Program) where
             }
 
         go : (d : Decision) → decided p x ≡ d → Alongside s t
-        go (Does e) q =
+        go (Ok e) q =
             both _ _ (done_by s steps_one e q rooms) (done_by t steps_other e q roomt) refl
             (shown_after e (judged_going p (plain x).registers (plain x).memory e q).panel)
             (λ f. ap₂ (output_after e.shows) count_same f)
-        go (Refuses e) q =
+        go (Err e) q =
             both _ _
             (steps_one ∙ ap (λ (d : Decision). carried s.registers s.memory (in_history s.registers d)) q)
             (steps_other ∙ ap (λ (d : Decision). carried t.registers t.memory (in_history t.registers d)) q)

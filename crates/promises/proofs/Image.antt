@@ -5,6 +5,7 @@
 -- place.
 --
 -- Assumes nothing.
+use Rattle.std.specs.Prelude.{Ok}
 use Prim.Native.Nat.{ℕ, suc, ◌+◌, ◌-◌, ◌%◌, ◌^◌, ◌≤◌, ◌<◌}
 use mathlib.Core.Path.{◌≡◌, refl, sym, ap, ap₂, ◌∙◌, subst}
 use mathlib.Core.Bool.{Bool, true, false, cond, ◌||◌}
@@ -16,6 +17,7 @@ use lib.Dec.{leb, ltb}
 use lib.ListN.{length, take, drop, length-append}
 use lib.Pow.{pow_pos, split}
 use lib.Seq.{take_at, drop_at}
+use Rattle.rules.specs.Answers.{Decoded}
 use Rattle.rules.specs.Lists.{all}
 use Rattle.rules.specs.Sizes.{max_program, image_size, max_offset, max_character}
 use Rattle.rules.specs.Numbers.{length_of_packed}
@@ -26,8 +28,6 @@ use Rattle.rules.specs.Image.{width_of, instruction_bits, program_bits, image_bi
 use Rattle.rules.specs.declared.Kind.{Kind}
 use Rattle.rules.specs.declared.Kind.TheVariants.{Bare, Immediate, Pattern, Offset, Target, Character}
 use Rattle.rules.specs.declared.ImageRefusal.TheVariants.{BadPadding}
-use Rattle.rules.specs.declared.Packed.TheVariants.{Length}
-use Rattle.rules.specs.declared.Taken.TheVariants.{Place}
 use Rattle.rules.proofs.Fields.{field_length, value_field}
 use Rattle.rules.proofs.Tests.{and_left, and_right}
 use Rattle.rules.proofs.Table.{table_short, used_sound, used_count, used_whole}
@@ -42,9 +42,9 @@ abbrev pub told_bytes : Filed → List ℕ
 told_bytes f = take (length_of_packed f.answer) f.output
 
 pub record UnpackedAgain (p : Program) (out table : List ℕ) : Type 0 where
-  pub accepted : (pack p out).answer ≡ Length (length (told_bytes (pack p out)))
+  pub accepted : (pack p out).answer ≡ Ok (length (told_bytes (pack p out)))
   pub fits : length (told_bytes (pack p out)) ≤ image_size
-  pub again : unpack (told_bytes (pack p out)) table ≡ record { answer = Length p.count; output = p.places }
+  pub again : unpack (told_bytes (pack p out)) table ≡ record { answer = Ok p.count; output = p.places }
 
 -- ---- an operand of its kind is read back
 
@@ -74,7 +74,7 @@ operand_back Character count v l h e = let z : v ≤ max_character = leb-true v 
 value_front : (w v : ℕ) (r : List ℕ) → value (take w (field w v ++ r)) ≡ v % 2 ^ w
 value_front w v r = ap value (take_at (field w v) r w (field_length w v)) ∙ value_field w v
 
-one_back : (count p : ℕ) (r : List ℕ) → count ≤ max_program → sound_place count p ≡ true → take_one count (instruction_bits p ++ r) ≡ Place p (length (instruction_bits p))
+one_back : (count p : ℕ) (r : List ℕ) → count ≤ max_program → sound_place count p ≡ true → take_one count (instruction_bits p ++ r) ≡ Ok (record { place = p; width = length (instruction_bits p) })
 unfolding instruction_bits sound_place
 one_back count p r l e =
     let code : ℕ = code_of p in
@@ -94,7 +94,7 @@ one_back count p r l e =
     ∙ one_operand count bits (omega arith) (omega arith)
     ∙ ap₂ (take_operand count) vc (drop_at (field 6 code) rest 6 (field_length 6 code))
     ∙ operand_taken count code rest (omega arith) (ap (within k count) vo ∙ hw)
-    ∙ ap₂ Place (ap (place_of code) vo ∙ split p 32) (sym (instruction_length p))
+    ∙ ap₂ {C = Decoded} (λ (a b : ℕ). Ok (record { place = a; width = b })) (ap (place_of code) vo ∙ split p 32) (sym (instruction_length p))
 
 program_back : (count : ℕ) (ps pad : List ℕ) → count ≤ max_program → all (sound_place count) ps ≡ true → padded pad ≡ true
     → unpack_from count (length ps) (program_bits ps ++ pad) ≡ places ps
@@ -137,7 +137,7 @@ module _ (p : Program) (s : sound_table p ≡ true) where
       ∙ ap (λ (k : ℕ). unpack_from n k rest) (sym (used_count p s))
       ∙ program_back n used pad h (used_sound p s) (padding_padded (image_bits p))
 
-  filed_back : (table : List ℕ) → filed table (unpacked image) ≡ record { answer = Length p.count; output = p.places }
+  filed_back : (table : List ℕ) → filed table (unpacked image) ≡ record { answer = Ok p.count; output = p.places }
   filed_back table = rw (unpacked_back, used_count p s, used_whole p s)
 
 pub image_unpacks : (p : Program) (out table : List ℕ) → sound_table p ≡ true → length out ≡ image_size → length table ≡ max_program → UnpackedAgain p out table
@@ -149,7 +149,7 @@ image_unpacks p out table s ho ht =
     let l : length (told_bytes (pack p out)) ≡ image_length p =
     ap length b ∙ told_length image_size (image_bits p) f in
     record {
-      accepted = ap (λ (x : Filed). x.answer) e ∙ ap Length (sym l);
+      accepted = ap (λ (x : Filed). x.answer) e ∙ ap Ok (sym l);
       fits = subst (λ (n : ℕ). n ≤ image_size) (sym l) f;
       again = ap (λ (x : List ℕ). unpack x table) b ∙ unpack_filed (image p s) table ht ∙ filed_back p s table;
     }

@@ -1,5 +1,6 @@
 -- Request i: a machine with room for all the records of the fresh run keeps up with it: each of its steps is accepted, and they leave what the run leaves. Assumes
 -- nothing.
+use Rattle.std.specs.Prelude.{Ok}
 use Prim.Native.Nat.{ℕ, zero, suc, ◌+◌, ◌≤◌, zero-le}
 use mathlib.Core.Path.{◌≡◌, refl, sym, ap, ap₂, ◌∙◌, subst}
 use mathlib.Core.Bool.{Bool, true, false, cond}
@@ -16,8 +17,7 @@ use Rattle.rules.specs.Records.{places_of}
 use Rattle.rules.specs.Step.{Stepped, judged, carried}
 use Rattle.rules.specs.Step as Step
 use Rattle.rules.specs.declared.Effect.{Effect}
-use Rattle.rules.specs.declared.Decision.{Decision}
-use Rattle.rules.specs.declared.Decision.TheVariants.{Does}
+use Rattle.rules.specs.Answers.{Decision}
 use Rattle.promises.specs.Unbounded.{Unbounded, moves, moved}
 use Rattle.promises.specs.Series.{State, Session, state_of, step, accepted, begin, afresh, Origin, ahead, remembered, Promised}
 use Rattle.promises.specs.Agrees.{HasRoom, KeepsUp}
@@ -75,10 +75,10 @@ module _ (p : Program) (o : State) (x₀ : Unbounded) (begins : Begins p o x₀)
       subst (λ (l : List (List ℕ)). length (places_of l) ≤ h) (one_more_lem (ltb 0 h) k newest x.records)
       (subst (λ (d : Decision). length (places_of (take (cond (ltb 0 h) (suc k) 0) (moves x d).records)) ≤ h) m.2 fits) in
       let made : s.made ≡ k = steps_made k m.0 (omega (arith, places_grow (ltb 0 h) newest (all k), room)) in
-      let does : judged p s.registers s.memory.cells (length s.memory.output) ≡ Does e =
+      let does : judged p s.registers s.memory.cells (length s.memory.output) ≡ Ok e =
       ap (λ (t : State). judged p t.registers t.memory.cells (length t.memory.output)) (at_steps k made)
       ∙ judged_held p h begins.short x (run_reached p o x₀ begins k m.0).good e m.2 (all k) room in
-      let answered : Step.step p s.registers s.memory ≡ carried s.registers s.memory (Does e) =
+      let answered : Step.step p s.registers s.memory ≡ carried s.registers s.memory (Ok e) =
       step_good p (state_of s) (good_kept p o x₀ begins s (kept_steps k)) ∙ ap (carried s.registers s.memory) does in
       ap (λ (t : Session). t.made) (steps_end p k (begin o)) ∙ ap (λ (a : Stepped). s.made + accepted a.answer) answered ∙ omega (arith, made)
 

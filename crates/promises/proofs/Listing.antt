@@ -5,6 +5,7 @@
 -- and leaves the same table, place by place.
 --
 -- Assumes nothing.
+use Rattle.std.specs.Prelude.{Ok}
 use Prim.Native.Nat.{ℕ, ◌-◌, ◌≤◌}
 use mathlib.Core.Path.{◌≡◌, ap}
 use mathlib.Core.Bool.{true}
@@ -18,8 +19,6 @@ use Rattle.rules.specs.Numbers.{length_of_listed}
 use Rattle.rules.specs.Table.{Program, sound_table}
 use Rattle.rules.specs.Assemble.{done, translated, assemble}
 use Rattle.rules.specs.Listing.{Written, listing, list}
-use Rattle.rules.specs.declared.Listed.TheVariants.{Told}
-use Rattle.rules.specs.declared.Assembled.TheVariants.{Made}
 use Rattle.rules.proofs.Table.{table_short, used_sound, used_count, used_whole}
 use Rattle.rules.proofs.Lines.{listing_fits, list_told}
 use Rattle.promises.proofs.ListingRound.{listing_translated}
@@ -31,10 +30,10 @@ abbrev pub told_bytes : Written → List ℕ
 told_bytes w = take (length_of_listed w.answer) w.bytes
 
 pub record AssembledAgain (p : Program) (out table : List ℕ) : Type 0 where
-  pub accepted : (list p out).answer ≡ Told (length (told_bytes (list p out)))
+  pub accepted : (list p out).answer ≡ Ok (length (told_bytes (list p out)))
   pub fits : length (told_bytes (list p out)) ≤ listing_size
   pub short : length (told_bytes (list p out)) ≤ max_source
-  pub again : assemble (told_bytes (list p out)) table ≡ record { answer = Made p.count; table = p.places }
+  pub again : assemble (told_bytes (list p out)) table ≡ record { answer = Ok p.count; table = p.places }
 
 -- ---- the proof
 
@@ -49,7 +48,7 @@ module _ (p : Program) (s : sound_table p ≡ true) where
   translated_again : translated (listing used) ≡ done used
   translated_again = listing_translated used (omega (arith, used_count p s, table_short p s)) (rw (used_count p s) (used_sound p s))
 
-  assembled : (table : List ℕ) → length table ≡ max_program → assemble (listing used) table ≡ record { answer = Made p.count; table = p.places }
+  assembled : (table : List ℕ) → length table ≡ max_program → assemble (listing used) table ≡ record { answer = Ok p.count; table = p.places }
   unfolding assemble
   assembled table h =
       let l : length (listing used) ≤ max_source = omega (arith, listing_fits p s) in

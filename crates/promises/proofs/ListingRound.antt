@@ -1,4 +1,5 @@
 -- A listing, judged line by line: each line of a sound place becomes an item that settles to that place. Assumes nothing.
+use Rattle.std.specs.Prelude.{Ok}
 use Prim.Native.Nat.{ℕ, ◌+◌, ◌≤◌, ◌<◌}
 use mathlib.Core.Path.{◌≡◌, refl, ap, sym, ◌∙◌}
 use mathlib.Core.Bool.{true}
@@ -17,7 +18,6 @@ use Rattle.rules.specs.Assemble.{Item, finished, numbered, instruction, Progress
 use Rattle.rules.specs.Listing.{decimal, signed_text, hex, operand_text, spaced, line_of, listing}
 use Rattle.rules.specs.declared.Kind.{Kind}
 use Rattle.rules.specs.declared.Kind.TheVariants.{Bare, Immediate, Pattern, Offset, Target, Character}
-use Rattle.rules.specs.declared.Numeral.TheVariants.{Value}
 use Rattle.rules.proofs.Tests.{and_left, and_right}
 use Rattle.rules.proofs.Tokens.{tokens_alone, tokens_line}
 use Rattle.rules.proofs.Operands.{ranged_most}
@@ -93,7 +93,7 @@ module _ (size n w : ℕ) (s : Progress) (at : ℕ) (rest : List ℕ) (h : code_
       )
 
   -- a number or bits, read as the operand
-  plain_read : (t : List ℕ) → operand_of_kind (kind_of c) c m t ≡ plain_number c (Value v) → operand_of_kind (kind_of c) c m t ≡ item (finished w)
+  plain_read : (t : List ℕ) → operand_of_kind (kind_of c) c m t ≡ plain_number c (Ok v) → operand_of_kind (kind_of c) c m t ≡ item (finished w)
   plain_read t e = e ∙ ap (λ (x : ℕ). item (finished x)) whole
 
   target_read : v ≤ n → target_of c m (decimal 9 v) (is_word (decimal 9 v)) ≡ item (numbered c m v)

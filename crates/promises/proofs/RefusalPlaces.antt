@@ -1,5 +1,6 @@
 -- Request a: where the assembler refuses a source. An operand that is missing is told at the source's end; every other refusal of a translated source
 -- stands at one of its bytes, and none of them is 31 or 21, which are about no byte. Assumes nothing.
+use Rattle.std.specs.Prelude.{Ok, Err}
 use Prim.Native.Nat.{ℕ, ◌+◌, ◌-◌, ◌^◌, ◌≤◌, ◌<◌}
 use mathlib.Core.Path.{◌≡◌, refl}
 use mathlib.Core.Bool.{Bool, true, false, ◌||◌}
@@ -19,8 +20,8 @@ use Rattle.rules.specs.Assemble.{code_named, allowed_run, body, is_label, Label,
 use Rattle.rules.specs.Assemble.{target_of, operand_of_kind, Judged, go, stop, add_label, new_label, begun_as, new_name, new_operand, judge_as, judge_token, Outcome, done, refused, join, settle_label, settle, finish_as, finish, after, judge, nothing, translated}
 use Rattle.rules.specs.declared.Kind.{Kind}
 use Rattle.rules.specs.declared.Kind.TheVariants.{Bare, Immediate, Pattern, Offset, Target, Character}
-use Rattle.rules.specs.declared.Numeral.{Numeral}
-use Rattle.rules.specs.declared.Numeral.TheVariants.{Value, WrongForm, OutOfRange}
+use Rattle.rules.specs.Answers.{Numeral}
+use Rattle.rules.specs.declared.NumeralFault.TheVariants.{WrongForm, OutOfRange}
 use Rattle.rules.specs.declared.TextRefusal.{TextRefusal}
 use Rattle.rules.specs.declared.TextRefusal.TheVariants.{ForbiddenByte, NoInstruction, OperandMissing, OperandRange, LabelTwice, LabelUnknown, TooManyInstructions, TooManyLabels, LabelTooLong, OperandForm}
 use Rattle.rules.proofs.Tests.{by_test, either, or_left, or_right}
@@ -84,14 +85,14 @@ module _ (size : ℕ) where
     here e k = right_inside e at k h
 
     plain_right : (c : ℕ) (n : Numeral) → RightReading at (plain_number c n)
-    plain_right c (Value v) = tt
-    plain_right c WrongForm = here OperandForm refl
-    plain_right c OutOfRange = here OperandRange refl
+    plain_right c (Ok v) = tt
+    plain_right c (Err WrongForm) = here OperandForm refl
+    plain_right c (Err OutOfRange) = here OperandRange refl
 
     target_right : (c : ℕ) (n : Numeral) → RightReading at (target_number c at n)
-    target_right c (Value v) = h
-    target_right c WrongForm = here OperandForm refl
-    target_right c OutOfRange = h
+    target_right c (Ok v) = h
+    target_right c (Err WrongForm) = here OperandForm refl
+    target_right c (Err OutOfRange) = h
 
     target_word_right : (c : ℕ) (t : List ℕ) (b : Bool) → RightReading at (target_of c at t b)
     unfolding target_label

@@ -1,6 +1,7 @@
 -- Request a: "Tell the technician the line." For every source and every table that is lent, a refusal of the assembler tells a place, a line and a
 -- column as specs/Refusals.antt promises: 31 and 21 tell none; any other tells three that name the same byte of the source, or its end where an
 -- operand is missing. Assumes nothing.
+use Rattle.std.specs.Prelude.{Ok, Err}
 use Prim.Native.Nat.{ℕ}
 use mathlib.Core.Path.{◌≡◌, refl, sym, ap, ◌∙◌, subst}
 use mathlib.Core.Bool.{true, false≢true}
@@ -13,8 +14,7 @@ use Rattle.rules.specs.Numbers.{text_number}
 use Rattle.rules.specs.Assemble.{Outcome, done, refused, Assembly, assembly, translated, assemble}
 use Rattle.rules.specs.declared.TextRefusal.{TextRefusal}
 use Rattle.rules.specs.declared.Position.{Position}
-use Rattle.rules.specs.declared.Assembled.{Assembled}
-use Rattle.rules.specs.declared.Assembled.TheVariants.{Made, Fault}
+use Rattle.rules.specs.Answers.{Assembled}
 use Rattle.rules.proofs.Tests.{either}
 use Rattle.promises.specs.Refusals.{of_no_byte, Placed}
 use Rattle.promises.proofs.Lines.{same_byte}
@@ -43,8 +43,8 @@ module _ (source : List ℕ) where
 
   -- what is promised of an answer, and so of the assembly that has it
   abbrev PlacedAnswer : Assembled → Type 0
-  PlacedAnswer (Made n) = Unit {0}
-  PlacedAnswer (Fault e p) = Placed source (text_number e) p
+  PlacedAnswer (Ok n) = Unit {0}
+  PlacedAnswer (Err x) = Placed source (text_number x.refusal) x.position
 
   abbrev PlacedAssembly : Assembly → Type 0
   PlacedAssembly a = PlacedAnswer a.answer
@@ -62,6 +62,6 @@ module _ (source : List ℕ) where
       (placed_outcome table (translated source) (translated_right source)) (placed_nowhere 21 refl))
       (placed_nowhere 31 refl)
 
-pub refusal_placed : (source table : List ℕ) (e : TextRefusal) (p : Position) → (assemble source table).answer ≡ Fault e p
+pub refusal_placed : (source table : List ℕ) (e : TextRefusal) (p : Position) → (assemble source table).answer ≡ Err (record { refusal = e; position = p })
     → Placed source (text_number e) p
 refusal_placed source table e p q = subst (PlacedAnswer source) q (placed_answer source table)

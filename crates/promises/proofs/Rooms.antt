@@ -1,6 +1,7 @@
 -- Request n: two machines with one start and any two histories. Both show the one fresh run of request i, which has room for all its records, as far as each is ahead
 -- (demand 3), and so each other; and both answer what that run decides, or 8. (proofs/GoesOn.antt goes step by step, since what is saved is any sound state, with no
 -- start.) Assumes nothing.
+use Rattle.std.specs.Prelude.{Ok, Err}
 use Prim.Native.Nat.{ℕ, zero, suc, ◌+◌, ◌-◌, ◌<◌}
 use mathlib.Core.Path.{◌≡◌, refl, sym, ap, ap₂, ◌∙◌, subst₂}
 use mathlib.Core.Logic.{◌⊎◌, inl, inr}
@@ -21,8 +22,7 @@ use Rattle.rules.specs.Step.{Stepped, in_history, carried}
 use Rattle.rules.specs.Step as Step
 use Rattle.rules.specs.declared.Registers.{Registers}
 use Rattle.rules.specs.declared.Effect.{Effect}
-use Rattle.rules.specs.declared.Decision.{Decision}
-use Rattle.rules.specs.declared.Decision.TheVariants.{Does, Refuses}
+use Rattle.rules.specs.Answers.{Decision}
 use Rattle.rules.proofs.Fair.{Sound}
 use Rattle.rules.proofs.FairEffects.{sound_facts}
 use Rattle.rules.proofs.Runs.{run_long, run_enter}
@@ -55,8 +55,8 @@ module _ (p : Program) (o : State) (x : Unbounded) (u : Session) (v : Promised p
   stays_full q = go (in_history u.registers (decided p (fresh_run p x u))) v.next
     where
       go : (d : Decision) → Step.step p u.registers u.memory ≡ carried u.registers u.memory d → state_of (ask p u step) ≡ state_of u
-      go (Refuses y) e = ap (λ (a : Stepped). state_of (stepped u a)) e
-      go (Does f) e = absurd (let z : ⊥ = omega (arith, sym (ap (λ (a : Stepped). number_of_step a.answer) e) ∙ q) in z)
+      go (Err y) e = ap (λ (a : Stepped). state_of (stepped u a)) e
+      go (Ok f) e = absurd (let z : ⊥ = omega (arith, sym (ap (λ (a : Stepped). number_of_step a.answer) e) ∙ q) in z)
 
 -- steps alone forget nothing, so that the places of all the run's records are used
 used_steps : (p : Program) (o : State) (x : Unbounded) (k : ℕ) → Promised p o x (afresh p o k) → 0 < o.registers.h

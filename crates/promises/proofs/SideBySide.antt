@@ -1,4 +1,5 @@
 -- Two machines that hold the same but for their histories, and answer what one run decides, or 8: their answers, and one turn of their runs. Assumes nothing.
+use Rattle.std.specs.Prelude.{Ok, Err}
 use Prim.Native.Nat.{ℕ, zero, suc, ◌+◌}
 use mathlib.Core.Path.{◌≡◌, refl, sym, ap, ◌∙◌, subst₂}
 use mathlib.Core.Logic.{inl, inr}
@@ -15,8 +16,7 @@ use Rattle.rules.specs.Step as Step
 use Rattle.rules.specs.Run.{Ran, ended, run_from}
 use Rattle.rules.specs.declared.Registers.{Registers}
 use Rattle.rules.specs.declared.Effect.{Effect}
-use Rattle.rules.specs.declared.Decision.{Decision}
-use Rattle.rules.specs.declared.Decision.TheVariants.{Does, Refuses}
+use Rattle.rules.specs.Answers.{Decision}
 use Rattle.rules.specs.declared.MachineRefusal.{MachineRefusal}
 use Rattle.rules.specs.declared.MachineRefusal.TheVariants.{HistoryFull}
 use Rattle.rules.specs.declared.Step.{Step}
@@ -39,11 +39,11 @@ pub data Together (r r' : Registers) (one other : Step) : Type 0 where
 -- what is decided, asked for room and carried out by each
 pub decided_once : (r r' : Registers) (m m' : Memory) (d : Decision)
     → Together r r' (carried r m (in_history r d)).answer (carried r' m' (in_history r' d)).answer
-decided_once r r' m m' (Refuses y) = neither y refl refl
-decided_once r r' m m' (Does e) = rooms (room_for r e) refl (room_for r' e) refl
+decided_once r r' m m' (Err y) = neither y refl refl
+decided_once r r' m m' (Ok e) = rooms (room_for r e) refl (room_for r' e) refl
   where
     rooms : (b : Bool) → room_for r e ≡ b → (b' : Bool) → room_for r' e ≡ b'
-        → Together r r' (carried r m (demand b HistoryFull (Does e))).answer (carried r' m' (demand b' HistoryFull (Does e))).answer
+        → Together r r' (carried r m (demand b HistoryFull (Ok e))).answer (carried r' m' (demand b' HistoryFull (Ok e))).answer
     rooms true f true g = both _ _ refl refl
     rooms true f false g = other_full e _ f g refl refl
     rooms false f true g = one_full e _ f g refl refl

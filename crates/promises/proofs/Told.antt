@@ -1,4 +1,5 @@
 -- Request j: the row of an allowed instruction tells where SP and PC are after it, by its operand, SP and PC alone; and so an accepted step leaves them. Assumes nothing.
+use Rattle.std.specs.Prelude.{Ok, Err}
 use Prim.Native.Nat.{ℕ, ◌-◌}
 use mathlib.Core.Path.{◌≡◌, refl, subst}
 use mathlib.Core.Bool.{true, false}
@@ -23,8 +24,7 @@ use Rattle.rules.specs.declared.Cell.{Cell}
 use Rattle.rules.specs.declared.ProgramAddress.{ProgramAddress}
 use Rattle.rules.specs.declared.Registers.{Registers}
 use Rattle.rules.specs.declared.Effect.{Effect}
-use Rattle.rules.specs.declared.Decision.{Decision}
-use Rattle.rules.specs.declared.Decision.TheVariants.{Does, Refuses}
+use Rattle.rules.specs.Answers.{Decision}
 use Rattle.rules.specs.declared.MachineRefusal.TheVariants.{Broken}
 use Rattle.rules.specs.declared.Step.TheVariants.{Next}
 use Rattle.rules.proofs.Tests.{never, either}
@@ -97,7 +97,7 @@ told_rows =
     then end
 
 -- an allowed instruction that does something had as many values as it needs, and leaves SP and PC as told
-pub decided_told : (r : Registers) (c : Cells) (place : ℕ) (e : Effect) → forbidden (row_of (code_of place)) ≡ false → decide_at r c place ≡ Does e
+pub decided_told : (r : Registers) (c : Cells) (place : ℕ) (e : Effect) → forbidden (row_of (code_of place)) ≡ false → decide_at r c place ≡ Ok e
     → (enough ((action_of (code_of place)).needs (operand_of place)) r.sp ≡ true) × Told (action_of (code_of place)) r (operand_of place) e
 unfolding decide_at decide action_of
 decided_told r c place e h q =
@@ -111,9 +111,9 @@ decided_told r c place e h q =
 -- ---- of a step
 
 -- a step that is accepted was decided
-next_does : (r : Registers) (m : Memory) (d : Decision) (r' : Registers) → (carried r m d).answer ≡ Next r' → (e : Effect) × (d ≡ Does e) × (registers_of r e ≡ r')
-next_does r m (Does e) r' q = (e, refl, cc)
-next_does r m (Refuses x) r' q = absurd (let z : ◌≡◌ {A = ℕ} 0 1 = cc in let y : ⊥ = omega arith in y)
+next_does : (r : Registers) (m : Memory) (d : Decision) (r' : Registers) → (carried r m d).answer ≡ Next r' → (e : Effect) × (d ≡ Ok e) × (registers_of r e ≡ r')
+next_does r m (Ok e) r' q = (e, refl, cc)
+next_does r m (Err x) r' q = absurd (let z : ◌≡◌ {A = ℕ} 0 1 = cc in let y : ⊥ = omega arith in y)
 
 -- the law that ties the table to the step
 pub step_told : (p : Program) (r : Registers) (m : Memory) (r' : Registers) → AllowedAt p r.pc → (Step.step p r m).answer ≡ Next r' → StepTold p r r'

@@ -1,5 +1,6 @@
 -- Demand 3 where nothing is forgotten: everything equals a fresh reset or load of the same sizes and S minus B steps of the machine itself. It follows from what a session
 -- keeps: all the records of the fresh run are held, so each of its steps had room. Assumes nothing.
+use Rattle.std.specs.Prelude.{IsOk}
 use Prim.Native.Nat.{ℕ, ◌+◌, ◌-◌, ◌≤◌}
 use mathlib.Core.Path.{◌≡◌, refl, ap, ◌∙◌, subst}
 use mathlib.Core.Bool.{Bool, true, false, ◌||◌, cond}
@@ -15,8 +16,6 @@ use Rattle.rules.specs.Records.{places_of}
 use Rattle.rules.specs.Reset as Reset
 use Rattle.rules.specs.SavedState as SavedState
 use Rattle.rules.specs.declared.MachineRefusal.TheVariants.{NoHistory}
-use Rattle.rules.specs.declared.Begun.TheVariants.{Ready}
-use Rattle.rules.specs.declared.Resumed.TheVariants.{Going}
 use Rattle.promises.specs.Unbounded.{Unbounded}
 use Rattle.promises.specs.Series.{Request, step, run, back, forget, State, Session, state_of, ask, series, begin, left, left_by_load, SameSizes, fresh, Origin, afresh, ahead, Promised}
 use Rattle.promises.specs.Whole.{NoForgets, Whole}
@@ -74,7 +73,7 @@ demand3_whole p o x origin qs n =
     whole_kept p o x begins (series p qs (begin o)) (kept_series p o x begins qs) (unforgotten p qs (begin o) n)
 
 -- beside a fresh reset of the same sizes
-pub demand3_fresh : (p : Program) (m m' : Memory) → (Reset.reset p m).answer.begun ≡ Ready → SameSizes m m' → length m.history ≡ length m'.history
+pub demand3_fresh : (p : Program) (m m' : Memory) → IsOk (Reset.reset p m).answer → SameSizes m m' → length m.history ≡ length m'.history
     → (qs : List Request) → NoForgets qs → Whole p (left (Reset.reset p m')) (series p qs (begin (left (Reset.reset p m))))
 demand3_fresh p m m' ready same history qs n =
     let o : State = left (Reset.reset p m) in
@@ -82,7 +81,7 @@ demand3_fresh p m m' ready same history qs n =
     (demand3_whole p o (fresh o) (reset_origin p m ready) qs n)
 
 -- beside a fresh load of the same image, "in place of a fresh reset" (02 k)
-pub demand3_loaded : (p : Program) (image : List ℕ) (m m' : Memory) → (SavedState.load image p m).answer.resumed ≡ Going → SameSizes m m' → length m.history ≡ length m'.history
+pub demand3_loaded : (p : Program) (image : List ℕ) (m m' : Memory) → IsOk (SavedState.load image p m).answer → SameSizes m m' → length m.history ≡ length m'.history
     → (qs : List Request) → NoForgets qs → Whole p (left_by_load (SavedState.load image p m')) (series p qs (begin (left_by_load (SavedState.load image p m))))
 demand3_loaded p image m m' going same history qs n =
     let o : State = left_by_load (SavedState.load image p m) in

@@ -16,7 +16,7 @@ use Rattle.rules.specs.Commit.{block, cell_places, cells_kept, cells_after}
 use Rattle.rules.specs.Why.{told_by}
 use Rattle.rules.specs.declared.Cell.{Cell}
 use Rattle.rules.specs.declared.Effect.{Effect}
-use Rattle.rules.specs.declared.Why.{Why}
+use Rattle.rules.specs.Answers.{Why}
 use Rattle.rules.proofs.Tests.{by_test}
 use Rattle.rules.proofs.Places.{cell_address_of}
 use Rattle.rules.proofs.Splice.{length_part, take_splice, rest_splice}

@@ -1,5 +1,6 @@
 -- Request l: "the named step did write that cell and no later kept one did": `explained`. After any series from any origin, of any cell. The records in use are the newest
 -- of the fresh run (`demand3`), and each of them tells of the cells that its step's effect wrote, and of no others. Assumes nothing.
+use Rattle.std.specs.Prelude.{Some, None, Ok, Err}
 use Prim.Native.Nat.{ℕ, zero, suc, ◌+◌, ◌-◌, ◌^◌, ◌≤◌, ◌<◌}
 use mathlib.Core.Path.{◌≡◌, sym, ap, ap₂, ◌∙◌, subst}
 use mathlib.Core.Bool.{Bool, true, false, cond}
@@ -20,12 +21,10 @@ use Rattle.rules.specs.Forget as Forget
 use Rattle.rules.specs.Why.{named_step, told_by, newest}
 use Rattle.rules.specs.declared.Registers.{Registers}
 use Rattle.rules.specs.declared.Effect.{Effect}
-use Rattle.rules.specs.declared.Decision.{Decision}
-use Rattle.rules.specs.declared.Decision.TheVariants.{Does}
+use Rattle.rules.specs.Answers.{Decision}
 use Rattle.rules.specs.declared.ForgetRefusal.TheVariants.{TooManySteps}
 use Rattle.rules.specs.declared.NamedStep.{NamedStep}
-use Rattle.rules.specs.declared.Why.{Why}
-use Rattle.rules.specs.declared.Why.TheVariants.{Named, NoKeptStep, NotNamed}
+use Rattle.rules.specs.Answers.{Why}
 use Rattle.rules.proofs.Tests.{by_test, every_at}
 use Rattle.rules.proofs.Table.{table_short}
 use Rattle.rules.proofs.Places.{cell_tag_of, cell_bits_of, step_pc_of}
@@ -48,7 +47,7 @@ use Rattle.promises.proofs.WrittenCells.{last_place, kept_inside, kept_outside, 
 
 -- ---- one step of the run, from y, and what its record tells
 
-module _ (p : Program) (y : Unbounded) (good : Good p (plain y)) (e : Effect) (q : decided p y ≡ Does e) (cell : ℕ) where
+module _ (p : Program) (y : Unbounded) (good : Good p (plain y)) (e : Effect) (q : decided p y ≡ Ok e) (cell : ℕ) where
   sound_there : Sound p (plain y).registers (plain y).memory
   sound_there = sound_facts p (plain y).registers (plain y).memory good.sound
 
@@ -91,32 +90,32 @@ module _ (p : Program) (y : Unbounded) (good : Good p (plain y)) (e : Effect) (q
     abbrev older : Why
     older = newest p.places cell (back + 1) ws
 
-    by_record : newest p.places cell back (w ∷ ws) ≡ told_by cell (cells_kept y.cells e) (λ q. Named (named_step p.places back step_there q)) older
+    by_record : newest p.places cell back (w ∷ ws) ≡ told_by cell (cells_kept y.cells e) (λ q. Ok (Some (named_step p.places back step_there q))) older
     by_record =
-        ap₂ (λ (l : List ℕ) (step : ℕ). told_by cell l (λ q. Named (named_step p.places back step q)) older) parts.0 parts.1
+        ap₂ (λ (l : List ℕ) (step : ℕ). told_by cell l (λ q. Ok (Some (named_step p.places back step q))) older) parts.0 parts.1
 
     keepable_there : Each (Keepable p.count) (part e.at e.count y.cells.tags) (part e.at e.count y.cells.bits)
     keepable_there = keepable p (plain y).registers (plain y).memory sound_there good.narrow e.at e.count
 
-    newest_wrote : Writes (Does e) cell → newest p.places cell back (w ∷ ws) ≡ Named (named_there back)
+    newest_wrote : Writes (Ok e) cell → newest p.places cell back (w ∷ ws) ≡ Ok (Some (named_there back))
     newest_wrote wrote =
         by_record
         ∙ kept_inside cell y.registers.n y.cells e sound_there.bits sound_there.tags fits p.count sound_there.few keepable_there
-        (λ q. Named (named_step p.places back step_there q)) older wrote.0 wrote.1
-        ∙ ap Named (named_is back (omega (arith, wrote.1, fits)))
+        (λ q. Ok (Some (named_step p.places back step_there q))) older wrote.0 wrote.1
+        ∙ ap {B = Why} (λ s. Ok (Some s)) (named_is back (omega (arith, wrote.1, fits)))
 
-    newest_older : (Writes (Does e) cell → ⊥) → newest p.places cell back (w ∷ ws) ≡ older
+    newest_older : (Writes (Ok e) cell → ⊥) → newest p.places cell back (w ∷ ws) ≡ older
     newest_older not =
         by_record
         ∙ kept_outside cell y.registers.n y.cells e sound_there.bits sound_there.tags fits p.count sound_there.few keepable_there
-        (λ q. Named (named_step p.places back step_there q)) older (λ low high. not (low, high))
+        (λ q. Ok (Some (named_step p.places back step_there q))) older (λ low high. not (low, high))
 
-  holding_still : (Writes (Does e) cell → ⊥) → holding (moves y (Does e)) cell ≡ holding y cell
+  holding_still : (Writes (Ok e) cell → ⊥) → holding (moves y (Ok e)) cell ≡ holding y cell
   holding_still not =
       cell_stays cell y.registers.n y.cells e sound_there.bits sound_there.tags fits (λ low high. not (low, high))
 
 -- whether an effect writes a cell
-writes_or_not : {P : Type 0} (e : Effect) (cell : ℕ) → (Writes (Does e) cell → P) → ((Writes (Does e) cell → ⊥) → P) → P
+writes_or_not : {P : Type 0} (e : Effect) (cell : ℕ) → (Writes (Ok e) cell → P) → ((Writes (Ok e) cell → ⊥) → P) → P
 writes_or_not e cell does leaves =
     by_test (leb e.at cell)
     (λ low.
@@ -136,7 +135,7 @@ module _ (p : Program) (x : Unbounded) (none : x.records ≡ []) (good-at : (k :
         (λ t. let there : j ≡ back + 1 → ⊥ = eqb-false j (back + 1) t in rest (omega arith))
 
     widen : (a : Why) → ToldOf p x far (back + 1) (back + 1 + k) cell a → ToldOf p x far back (back + suc k) cell a
-    widen (Named a) t =
+    widen (Ok (Some a)) t =
         record {
           above = omega (arith, t.above);
           within = omega (arith, t.within);
@@ -147,13 +146,13 @@ module _ (p : Program) (x : Unbounded) (none : x.records ≡ []) (good-at : (k :
           held = t.held;
           holds = still ∙ t.holds;
         }
-    widen NoKeptStep t =
+    widen (Ok None) t =
         let all : back + 1 + k ≡ back + suc k = omega arith in
         record {
           none = λ j low high. later_too j low (λ more. t.none j more (omega (arith, high)));
           holds = still ∙ t.holds ∙ ap (λ (n : ℕ). holding (stood p x far n) cell) all;
         }
-    widen (NotNamed e) t = t
+    widen (Err e) t = t
 
   -- k records, the newest of which is one more than `back` steps back; so many steps were made when it was the last
   tells : (k made back : ℕ) (ws : List HistoryRecord) → Makes p x made → far ≡ made + back → length ws ≡ k

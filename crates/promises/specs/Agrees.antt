@@ -1,6 +1,6 @@
 -- Request i: the fresh run, whose room no refusal judges, does what `step` does wherever a history has room. proofs/Agrees.antt and
 -- proofs/KeepsUp.antt show it. Assumes nothing.
-use Rattle.std.specs.Prelude.{ℕ, ◌≤◌, ◌<◌, ◌≡◌, length, take}
+use Rattle.std.specs.Prelude.{ℕ, ◌≤◌, ◌<◌, ◌≡◌, length, take, Ok, Err}
 use Rattle.rules.specs.Table.{Program}
 use Rattle.rules.specs.State.{others}
 use Rattle.rules.specs.Commit.{record_of, registers_of, memory_of}
@@ -8,7 +8,6 @@ use Rattle.rules.specs.Records.{places_of}
 use Rattle.rules.specs.Step.{in_history, carried}
 use Rattle.rules.specs.Step as Step
 use Rattle.rules.specs.declared.Effect.{Effect}
-use Rattle.rules.specs.declared.Decision.TheVariants.{Does, Refuses}
 use Rattle.rules.specs.declared.MachineRefusal.TheVariants.{HistoryFull}
 use Rattle.promises.specs.Unbounded.{Unbounded, moves, decided, moved}
 use Rattle.promises.specs.Series.{State, state_of, afresh}
@@ -24,11 +23,11 @@ pub record Agrees (p : Program) (x : Unbounded) (s : State) : Type 0 where
   -- what the run decides, asked for room and carried out: so it is done wherever there is room, or no history, and 8 where there is none; else the run's refusal
   pub steps : Step.step p s.registers s.memory ≡ carried s.registers s.memory (in_history s.registers (decided p x))
   -- which is never an 8
-  pub never : decided p x ≡ Refuses HistoryFull → ⊥
+  pub never : decided p x ≡ Err HistoryFull → ⊥
   -- what is done keeps the same record, and leaves the same again
   pub keeps : (e : Effect) → record_of s.registers s.memory.cells e ≡ record_of x.registers x.cells e
   pub leaves : (e : Effect)
-      → Alike (moves x (Does e)) (record { registers = registers_of s.registers e; memory = memory_of s.registers s.memory e })
+      → Alike (moves x (Ok e)) (record { registers = registers_of s.registers e; memory = memory_of s.registers s.memory e })
 
 -- of a machine that begins at o: the run y makes k steps, and there is room for all their records, or no history
 pub record HasRoom (o : State) (y : Unbounded) (k : ℕ) : Type 0 where

@@ -1,7 +1,7 @@
 -- Request k. "Saving and loading again keeps cells, tags, written output and registers, except that U and the kept number become 0 and H is the lent history's.", and
 -- "only with the same one does the saved session go on", the program. Here is what is promised of a state that is saved and of the state that its image is loaded as;
 -- proofs/Carried.antt and proofs/GoesOn.antt show it. Assumes nothing.
-use Rattle.std.specs.Prelude.{ℕ, ◌-◌, ◌^◌, ◌≤◌, ◌<◌, ◌≡◌, List, ◌++◌, length, get_or, take, drop, replicate}
+use Rattle.std.specs.Prelude.{ℕ, ◌-◌, ◌^◌, ◌≤◌, ◌<◌, ◌≡◌, List, ◌++◌, length, get_or, take, drop, replicate, Ok, IsOk}
 use Rattle.rules.specs.Sizes.{max_history, max_output, state_size}
 use Rattle.rules.specs.Table.{Program}
 use Rattle.rules.specs.State.{Memory, registers_holding, others}
@@ -11,8 +11,6 @@ use Rattle.rules.specs.SavedState.{Saving, save, load}
 use Rattle.rules.specs.declared.Registers.{Registers}
 use Rattle.rules.specs.declared.MachineRefusal.TheVariants.{HistoryFull}
 use Rattle.rules.specs.declared.Step.{Step}
-use Rattle.rules.specs.declared.Saved.TheVariants.{Bytes}
-use Rattle.rules.specs.declared.Resumed.TheVariants.{Going}
 use Rattle.promises.specs.Series.{State, state_of, left_by_load, afresh}
 
 -- ---- saving and loading again
@@ -51,10 +49,10 @@ carried_to lent r m =
 -- what is promised of a state that is saved into a lent image, and loaded again into lent memory
 pub record CarriedOver (p : Program) (r : Registers) (m : Memory) (image : List ℕ) (lent : Memory) : Type 0 where
   -- the save is accepted, and the length told is within the lent image
-  pub saves : (save p r m image).answer ≡ Bytes (length (told_image (save p r m image)))
+  pub saves : (save p r m image).answer ≡ Ok (length (told_image (save p r m image)))
   pub fits : length (told_image (save p r m image)) ≤ state_size
   -- and so is the load
-  pub loads : (load (told_image (save p r m image)) p lent).answer.resumed ≡ Going
+  pub loads : IsOk (load (told_image (save p r m image)) p lent).answer
   pub keeps : left_by_load (load (told_image (save p r m image)) p lent) ≡ carried_to lent r m
 
 -- ---- the saved session goes on

@@ -1,11 +1,10 @@
 -- Request f: "A dwell reader for the door board." What is promised of the dwell to whoever answers for the doors: which tenths a FLOAT is, between which ends a
 -- dwell lies, and that what was tried and taken back leaves it alone. proofs/Tenths.antt and proofs/Dwells.antt show it. Assumes nothing.
-use Rattle.std.specs.Prelude.{ℕ, ◌≤◌, ◌≡◌, List, ℤ, pos, ◌*ℤ◌, ◌≤ℤ◌}
+use Rattle.std.specs.Prelude.{ℕ, ◌≤◌, ◌≡◌, List, ℤ, pos, ◌*ℤ◌, ◌≤ℤ◌, Ok, Err}
 use Rattle.rules.specs.Exact.{scale, exact}
 use Rattle.rules.specs.Table.{Program}
 use Rattle.rules.specs.Dwell.{dwell}
-use Rattle.rules.specs.declared.Dwell.{Dwell}
-use Rattle.rules.specs.declared.Dwell.TheVariants.{Tenths, Unread}
+use Rattle.rules.specs.Answers.{Dwell}
 use Rattle.promises.specs.Unbounded.{Unbounded}
 use Rattle.promises.specs.Series.{Request, Session, plain, series, from_here, fresh_run}
 
@@ -18,8 +17,8 @@ pub record LargestTenth (b : ℕ) (t : ℤ) : Type 0 where
 
 -- "held between 10 and 300 tenths": a dwell that is read is 1 second at least and 30 at most; of a refusal nothing is said
 abbrev pub Held : Dwell → Type 0
-Held (Tenths t) = (10 ≤ t) × (t ≤ 300)
-Held (Unread e) = Unit {0}
+Held (Ok t) = (10 ≤ t) × (t ≤ 300)
+Held (Err e) = Unit {0}
 
 -- ---- what is read in a session
 

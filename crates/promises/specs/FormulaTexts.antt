@@ -1,6 +1,6 @@
 -- Request m: "with * and / before + and -, all four grouping to the left, unary minus before them all; spaces are allowed": how a tree is written as a formula, with
 -- brackets only where these words need them; and what is promised of that text, which proofs/FormulaTexts.antt shows. Assumes nothing.
-use Rattle.std.specs.Prelude.{ℕ, suc, ◌+◌, ◌≤◌, max, ◌≡◌, Bool, true, false, List, [], ◌∷◌, ◌++◌, length}
+use Rattle.std.specs.Prelude.{ℕ, suc, ◌+◌, ◌≤◌, max, ◌≡◌, Bool, true, false, List, [], ◌∷◌, ◌++◌, length, Ok}
 use Prim.Native.Char.{code}
 use Rattle.rules.specs.Sizes.{max_source, max_program, max_nesting}
 use Rattle.rules.specs.Bytes.{space}
@@ -9,7 +9,6 @@ use Rattle.rules.specs.Grammar.{Tree, number, name, negative, joined, Token, dig
 use Rattle.rules.specs.Translate.{cost, depth, table_for, translate}
 use Rattle.rules.specs.declared.Operator.{Operator}
 use Rattle.rules.specs.declared.Operator.TheVariants.{Add, Subtract, Multiply, Divide}
-use Rattle.rules.specs.declared.Translated.TheVariants.{Sized}
 use Rattle.formula.specs.Trees.{Proper}
 
 -- ---- a tree as tokens
@@ -105,7 +104,7 @@ pub record Written (t : Tree) : Type 0 where
   -- "Source 0 to 65,536 bytes"
   pub short : length (text_of t) ≤ max_source
   -- so it is refused by no number: into a table of right length, whatever it held, the code of that tree is written, and its length and its depth are told
-  pub taken : (lent : List ℕ) → length lent ≡ max_program → translate (text_of t) lent ≡ record { answer = Sized (cost t + 1) (depth t); table = table_for t }
+  pub taken : (lent : List ℕ) → length lent ≡ max_program → translate (text_of t) lent ≡ record { answer = Ok (record { length = cost t + 1; depth = depth t }); table = table_for t }
 
 -- so every tree within the bounds has a formula that is translated to its code
 abbrev pub Translatable : Tree → Type 0

@@ -4,7 +4,7 @@
 -- equals F (or H = 0). Demand 3's fresh run is now made with room for all its records ..". Request k: "demand 3 from then on reads "the latest reset or load", a fresh
 -- load in place of a fresh reset, with S, B and F counted from there." Here is what they say, with request g's "How many steps can I take back?";
 -- proofs/Demand3.antt and proofs/TakesBack.antt show it. Assumes nothing.
-use Rattle.std.specs.Prelude.{ℕ, ◌+◌, ◌-◌, ◌≤◌, ◌<◌, min, ◌≡◌, true, ◌||◌, cond, List, [], ◌∷◌, map, length, take, drop, replicate, leb, ltb, eqb}
+use Rattle.std.specs.Prelude.{ℕ, ◌+◌, ◌-◌, ◌≤◌, ◌<◌, min, ◌≡◌, true, ◌||◌, cond, List, [], ◌∷◌, map, length, take, drop, replicate, leb, ltb, eqb, Ok, Err, IsOk}
 use Rattle.rules.specs.Table.{Program}
 use Rattle.rules.specs.State.{Memory, steps_in_use, others, sound}
 use Rattle.rules.specs.Numbers.{machine_number, forget_number, number_of_step, registers_after, number_of_forgot, registers_forgot}
@@ -19,12 +19,9 @@ use Rattle.rules.specs.SavedState as SavedState
 use Rattle.rules.specs.declared.Registers.{Registers}
 use Rattle.rules.specs.declared.MachineRefusal.TheVariants.{NoHistory}
 use Rattle.rules.specs.declared.ForgetRefusal.TheVariants.{TooManySteps}
-use Rattle.rules.specs.declared.Begun.TheVariants.{Ready}
-use Rattle.rules.specs.declared.Resumed.TheVariants.{Going}
 use Rattle.rules.specs.declared.Step.{Step}
 use Rattle.rules.specs.declared.Step.TheVariants.{Next, Refused}
-use Rattle.rules.specs.declared.Forgot.{Forgot}
-use Rattle.rules.specs.declared.Forgot.TheVariants.{Forgotten, NotForgotten}
+use Rattle.rules.specs.Answers.{Forgot}
 use Rattle.promises.specs.Unbounded.{Unbounded, unmoved, decided, moved}
 
 -- ---- a series
@@ -66,8 +63,8 @@ accepted (Next r) = 1
 accepted (Refused e) = 0
 
 abbrev pub accepted_of : ℕ → Forgot → ℕ
-accepted_of k (Forgotten r) = k
-accepted_of k (NotForgotten e) = 0
+accepted_of k (Ok r) = k
+accepted_of k (Err e) = 0
 
 -- after a step, after a step-back, after a run, after a forget: a refused one leaves the registers as they were, and a run tells the steps it made
 abbrev pub stepped : Session → Stepped → Session
@@ -137,10 +134,10 @@ afresh p o k = series p (replicate k step) (begin o)
 
 -- what a reset leaves, and what a load leaves
 abbrev pub left : Reset.Started → State
-left o = record { registers = o.answer.registers; memory = o.memory }
+left o = record { registers = Reset.registers_begun o.answer; memory = o.memory }
 
 abbrev pub left_by_load : SavedState.Loading → State
-left_by_load o = record { registers = o.answer.registers; memory = o.memory }
+left_by_load o = record { registers = SavedState.registers_resumed o.answer; memory = o.memory }
 
 -- "its other sizes the same": as many cells, tags and bytes of output, whatever they hold
 pub record SameSizes (m m' : Memory) : Type 0 where
@@ -151,9 +148,9 @@ pub record SameSizes (m m' : Memory) : Type 0 where
 -- The same start twice, with histories of any two lengths: what two resets leave that are accepted, or what two loads of one image leave that are accepted; of lent
 -- memory of the same sizes but for its history. "The program handed to the load is demand 3's program from then on."
 pub data SameStart (p : Program) (o t : State) : Type 0 where
-  reset : (m m' : Memory) → (Reset.reset p m).answer.begun ≡ Ready → (Reset.reset p m').answer.begun ≡ Ready → SameSizes m m'
+  reset : (m m' : Memory) → IsOk (Reset.reset p m).answer → IsOk (Reset.reset p m').answer → SameSizes m m'
       → o ≡ left (Reset.reset p m) → t ≡ left (Reset.reset p m') → SameStart p o t
-  load : (image : List ℕ) (m m' : Memory) → (SavedState.load image p m).answer.resumed ≡ Going → (SavedState.load image p m').answer.resumed ≡ Going → SameSizes m m'
+  load : (image : List ℕ) (m m' : Memory) → IsOk (SavedState.load image p m).answer → IsOk (SavedState.load image p m').answer → SameSizes m m'
       → o ≡ left_by_load (SavedState.load image p m) → t ≡ left_by_load (SavedState.load image p m') → SameStart p o t
 
 -- of a machine, to run beside it without a history: no step is made

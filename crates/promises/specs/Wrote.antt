@@ -1,16 +1,14 @@
 -- Request l. "Given a cell, the tool names the newest kept step which wrote it .. Under demand 3's premise the named step did write that cell and no later kept one did."
 -- What is promised of the answer, beside demand 3's fresh run: which cells a step wrote is read off its effect in that run, and not off a record.
 -- proofs/Wrote.antt shows it. Assumes nothing.
-use Rattle.std.specs.Prelude.{ℕ, ◌+◌, ◌-◌, ◌≤◌, ◌<◌, ◌≡◌, get_or}
+use Rattle.std.specs.Prelude.{ℕ, ◌+◌, ◌-◌, ◌≤◌, ◌<◌, ◌≡◌, get_or, Some, None, Ok, Err}
 use Rattle.rules.specs.Table.{Program}
 use Rattle.rules.specs.Cells.{cell_at}
 use Rattle.rules.specs.Why.{why}
 use Rattle.rules.specs.declared.Cell.{Cell}
-use Rattle.rules.specs.declared.Decision.{Decision}
-use Rattle.rules.specs.declared.Decision.TheVariants.{Does, Refuses}
+use Rattle.rules.specs.Answers.{Decision}
 use Rattle.rules.specs.declared.NamedStep.{NamedStep}
-use Rattle.rules.specs.declared.Why.{Why}
-use Rattle.rules.specs.declared.Why.TheVariants.{Named, NoKeptStep, NotNamed}
+use Rattle.rules.specs.Answers.{Why}
 use Rattle.rules.specs.declared.WhyRefusal.TheVariants.{NoSuchCell}
 use Rattle.promises.specs.Unbounded.{Unbounded, decided, moved}
 use Rattle.promises.specs.Series.{Session, ahead}
@@ -27,8 +25,8 @@ holding y cell = cell_at y.cells (record { 0 = cell })
 
 -- "Cells written": those of the block that a step's effect has; a step that is refused writes none
 abbrev pub Writes : Decision → (cell : ℕ) → Type 0
-Writes (Does e) cell = (e.at ≤ cell) × (cell < e.at + e.count)
-Writes (Refuses y) cell = ⊥
+Writes (Ok e) cell = (e.at ≤ cell) × (cell < e.at + e.count)
+Writes (Err y) cell = ⊥
 
 -- the step that is so many steps back "wrote it"
 abbrev pub Wrote : Program → Unbounded → (far cell back : ℕ) → Type 0
@@ -58,9 +56,9 @@ pub record NoneOf (p : Program) (x : Unbounded) (far from upto cell : ℕ) : Typ
   pub holds : holding (stood p x far from) cell ≡ holding (stood p x far upto) cell
 
 abbrev pub ToldOf : Program → Unbounded → (far from upto cell : ℕ) → Why → Type 0
-ToldOf p x far from upto cell (Named a) = NewestOf p x far from upto cell a
-ToldOf p x far from upto cell NoKeptStep = NoneOf p x far from upto cell
-ToldOf p x far from upto cell (NotNamed e) = ⊥
+ToldOf p x far from upto cell (Ok (Some a)) = NewestOf p x far from upto cell a
+ToldOf p x far from upto cell (Ok None) = NoneOf p x far from upto cell
+ToldOf p x far from upto cell (Err e) = ⊥
 
 -- ---- what is promised of a session, beside the fresh run from x
 
@@ -72,4 +70,4 @@ pub record Explained (p : Program) (x : Unbounded) (s : Session) (cell : ℕ) : 
   -- of a cell below N one of them is named, or none
   pub told : cell < s.registers.n → ToldOf p x (ahead s) 0 s.registers.kept cell (why p cell s.registers s.memory)
   -- "6 for a cell not below N"; no other refusal is met
-  pub refused : s.registers.n ≤ cell → why p cell s.registers s.memory ≡ NotNamed NoSuchCell
+  pub refused : s.registers.n ≤ cell → why p cell s.registers s.memory ≡ Err NoSuchCell

@@ -1,19 +1,18 @@
--- The walk down over the records in use: what its loop carries, one record more and none left; and what it tells. Assumes nothing.
+-- The walk down over the records in use: what its loop carries, one record more and none left; and the answer at its end. Assumes nothing.
+use Rattle.std.specs.Prelude.{Some, None}
 use Prim.Native.Nat.{ℕ, suc, ◌+◌, ◌-◌, ◌≤◌, ◌<◌, min}
-use mathlib.Core.Path.{◌≡◌, refl, sym, ap, ◌∙◌, subst}
-use mathlib.Core.Bool.{Bool, true, false, cond}
+use mathlib.Core.Path.{◌≡◌, sym, ap, ◌∙◌, subst}
+use mathlib.Core.Bool.{Bool, true, false, cond, and-true}
 use mathlib.Core.List.{List}
 use native.Mathlib.Omega.{arith}
 use lib.ListN.{length, get_or, drop, drop_of_length-le}
-use lib.Dec.{leb}
+use lib.Dec.{leb, eqb}
 use borrow.Author.Tests.{leb-true, leb-false}
 use Rattle.rules.specs.Places.{step_count}
-use Rattle.rules.specs.Records.{HistoryRecord, record_at, cut_down, formed_record, formed_records, places_taken}
-use Rattle.rules.proofs.Tests.{by_test}
-use Rattle.rules.proofs.Records.{cells_within}
-use Rattle.rules.proofs.Forgetting.{Walked, walked_none, walked_one, walked_bad, walked_all, walked_freed}
-use Rattle.records.specs.Walks.{found, broken, walk_down}
-use Rattle.records.specs.declared.walk.Walk.{Walk}
+use Rattle.rules.specs.Records.{HistoryRecord, record_at, cut_down, formed_record, kept_tests, places_taken}
+use Rattle.rules.proofs.Tests.{by_test, every_false}
+use Rattle.rules.proofs.Forgetting.{Walked, walked_one, walked_bad, walked_all, walked_freed}
+use Rattle.records.specs.Judgements.{judgement}
 
 module _ (n count stay used : ℕ) (history : List ℕ) where
   -- so many records are passed and so many places left; and so many places are below the newest `stay`, or below all that are passed where these are fewer
@@ -22,34 +21,23 @@ module _ (n count stay used : ℕ) (history : List ℕ) where
     pub newest : Walked n count history used below (min passed stay)
     pub within : passed + left ≤ used
 
-  pub walking_none : Walking used 0 used
-  walking_none =
-      let none : 0 ≡ min 0 stay = omega arith in
-      record {
-        far = walked_none n count history used;
-        newest = subst (Walked n count history used used) none (walked_none n count history used);
-        within = omega arith;
-      }
-
   -- ---- a loop's turn: the record whose step place is the last of the places left
-  module _ (left passed below : ℕ) (w : Walking left passed below) (some : 0 < left) where
+  module _ {left passed below : ℕ} (w : Walking left passed below) (some : 0 < left) where
     at_last : Walked n count history used (suc (left - 1)) passed
     at_last = let last : left ≡ suc (left - 1) = omega arith in subst (λ (k : ℕ). Walked n count history used k passed) last w.far
 
-    pub walk_broken : formed_record n count (record_at (left - 1) history) ≡ false → broken ≡ walk_down n count stay used history
-    unfolding walk_down
-    walk_broken h =
+    pub walk_broken : (kept : ℕ) → formed_record n count (record_at (left - 1) history) ≡ false → None ≡ judgement n count kept stay (cut_down 0 used history)
+    unfolding judgement
+    walk_broken kept h =
+        let ws : List HistoryRecord = cut_down 0 used history in
         sym
-        (ap (λ (b : Bool). cond b (found stay (cut_down 0 used history)) broken)
-        (walked_bad n count history used (left - 1) passed at_last h))
+        (ap (λ (b : Bool). cond b (Some (places_taken (drop stay ws))) None)
+        (every_false (kept_tests n count kept ws) 0 (walked_bad n count history used (left - 1) passed at_last h)))
 
     -- one that is well formed and has x cells is passed
-    module _ (h : formed_record n count (record_at (left - 1) history) ≡ true) (x : ℕ) (is : x ≡ step_count (get_or history (left - 1) 0)) where
-      pub passes : x ≤ left - 1
-      passes = omega (arith, is, cells_within n count (record_at (left - 1) history) h)
-
-      one_more_lem : Walked n count history used (left - 1 - x) (passed + 1)
-      one_more_lem =
+    module _ (h : formed_record n count (record_at (left - 1) history) ≡ true) {x : ℕ} (is : x ≡ step_count (get_or history (left - 1) 0)) where
+      one_more : Walked n count history used (left - 1 - x) (passed + 1)
+      one_more =
           subst (λ (k : ℕ). Walked n count history used (left - 1 - k) (passed + 1)) (sym is)
           (walked_one n count history used (left - 1) passed at_last h)
 
@@ -58,8 +46,8 @@ module _ (n count stay used : ℕ) (history : List ℕ) where
       walking_new few =
           let all : passed + 1 ≡ min (passed + 1) stay = omega arith in
           record {
-            far = one_more_lem;
-            newest = subst (Walked n count history used (left - 1 - x)) all one_more_lem;
+            far = one_more;
+            newest = subst (Walked n count history used (left - 1 - x)) all one_more;
             within = omega (arith, w.within);
           }
 
@@ -67,28 +55,23 @@ module _ (n count stay used : ℕ) (history : List ℕ) where
       walking_old many =
           let same : min passed stay ≡ min (passed + 1) stay = omega arith in
           record {
-            far = one_more_lem;
+            far = one_more;
             newest = subst (Walked n count history used below) same w.newest;
             within = omega (arith, w.within);
           }
 
-  -- ---- its end
-  pub walk_found : (left passed below : ℕ) → Walking left passed below → left ≤ 0
-      → record { formed = true; records = passed; below = below } ≡ walk_down n count stay used history
-  unfolding walk_down
-  walk_found left passed below w none =
+  -- ---- its end: every record is well formed, and they are counted
+  pub walk_end : {left passed below : ℕ} (kept : ℕ) → Walking left passed below → left ≤ 0
+      → cond (eqb kept passed) (Some below) None ≡ judgement n count kept stay (cut_down 0 used history)
+  unfolding judgement
+  walk_end {left} {passed} {below} kept w none =
       let ws : List HistoryRecord = cut_down 0 used history in
       let end : left ≡ 0 = omega arith in
       let all = walked_all n count history used passed (subst (λ (k : ℕ). Walked n count history used k passed) end w.far) in
-      let stand : drop (min passed stay) ws ≡ drop stay ws = dropped ws all.1 in
+      let freed = walked_freed n count history used below (min passed stay) w.newest all.0 in
       sym
-      (ap (λ (b : Bool). cond b (found stay ws) broken) all.0
-      ∙ (λ i.
-      record {
-        formed = true;
-        records = all.1 i;
-        below = (ap places_taken (sym stand) ∙ walked_freed n count history used below (min passed stay) w.newest all.0) i;
-      }))
+      (rw (all.0, all.1, and-true (eqb kept passed))
+      (ap (λ (k : ℕ). cond (eqb kept passed) (Some k) None) (ap places_taken (sym (dropped ws all.1)) ∙ freed)))
     where
       dropped : (ws : List HistoryRecord) → length ws ≡ passed → drop (min passed stay) ws ≡ drop stay ws
       dropped ws long =
@@ -100,25 +83,3 @@ module _ (n count stay used : ℕ) (history : List ℕ) where
           (λ many.
           let same : min passed stay ≡ stay = omega (arith, leb-false passed stay many) in
           ap (λ (k : ℕ). drop k ws) same)
-
--- ---- what is told by it
-
-module _ (n count stay used : ℕ) (history : List ℕ) (w : Walk) (e : w ≡ walk_down n count stay used history) where
-  pub told_formed : w.formed ≡ formed_records n count (cut_down 0 used history)
-  unfolding walk_down
-  told_formed = ap (λ (a : Walk). a.formed) e ∙ which (formed_records n count (cut_down 0 used history))
-    where
-      which : (b : Bool) → (cond b (found stay (cut_down 0 used history)) broken).formed ≡ b
-      which true = refl
-      which false = refl
-
-  module _ (formed : formed_records n count (cut_down 0 used history) ≡ true) where
-    told : w ≡ found stay (cut_down 0 used history)
-    unfolding walk_down
-    told = e ∙ ap (λ (b : Bool). cond b (found stay (cut_down 0 used history)) broken) formed
-
-    pub told_records : w.records ≡ length (cut_down 0 used history)
-    told_records = ap (λ (a : Walk). a.records) told
-
-    pub told_below : w.below ≡ places_taken (drop stay (cut_down 0 used history))
-    told_below = ap (λ (a : Walk). a.below) told

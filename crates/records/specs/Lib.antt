@@ -1,3 +1,2 @@
--- What a walk over the records in use finds, and what a forget and a why are told of them first.
-pub mod Walks
+-- What a forget and a why are told of the records in use.
 pub mod Judgements

@@ -7,19 +7,11 @@ fn is_formed_cell(place: u64, low: usize, n: usize, count: usize) -> bool
     ensures { result ≡ formed_cell n count low place }
 {
     let address = places::cell_address(place);
-    if places::mark_of(place) != places::CELL_MARK {
-        return false;
-    }
-    if places::cell_zeros(place) != 0 {
-        return false;
-    }
-    if address < low {
-        return false;
-    }
-    if n <= address {
-        return false;
-    }
-    state::is_sound_cell(count, places::cell_tag(place), places::cell_bits(place))
+    places::mark_of(place) == places::CELL_MARK
+        && places::cell_zeros(place) == 0
+        && low <= address
+        && address < n
+        && state::is_sound_cell(count, places::cell_tag(place), places::cell_bits(place))
 }
 
 // Whether the cell places are well formed, and their addresses rise strictly.
@@ -27,15 +19,11 @@ pub(crate) fn are_formed_cells(cells: &[u64], n: usize, count: usize) -> bool
     ensures { result ≡ formed_cells n count 0 cells.now }
 {
     let mut low = 0;
-    let mut i = 0;
-    while i < cells.len() {
-        let place = cells[i];
-        let ok = is_formed_cell(place, low, n, count);
-        if !ok {
+    for place in cells {
+        if !is_formed_cell(*place, low, n, count) {
             return false;
         }
-        low = places::cell_address(place) + 1;
-        i += 1;
+        low = places::cell_address(*place) + 1;
     }
     true
 }
@@ -44,20 +32,10 @@ pub(crate) fn are_formed_cells(cells: &[u64], n: usize, count: usize) -> bool
 pub(crate) fn is_formed_step(place: u64, n: usize, count: usize, below: usize) -> bool
     ensures { result ≡ formed_step n count below place }
 {
-    if places::mark_of(place) != places::STEP_MARK {
-        return false;
-    }
-    if places::step_zeros(place) != 0 {
-        return false;
-    }
-    if count <= places::step_pc(place) {
-        return false;
-    }
-    if n <= places::step_sp(place) {
-        return false;
-    }
-    if n <= places::step_fbr(place) {
-        return false;
-    }
-    places::step_count(place) <= below
+    places::mark_of(place) == places::STEP_MARK
+        && places::step_zeros(place) == 0
+        && places::step_pc(place) < count
+        && places::step_sp(place) < n
+        && places::step_fbr(place) < n
+        && places::step_count(place) <= below
 }

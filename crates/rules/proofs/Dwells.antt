@@ -1,4 +1,5 @@
 -- The dwell, answer by answer: tenths held between the shortest and the longest, and what is read of a machine. Assumes nothing.
+use Rattle.std.specs.Prelude.{Ok, Err}
 use mathlib.Core.Path.{◌≡◌, refl, sym, ap, ap₂, ◌∙◌}
 use mathlib.Core.Bool.{Bool, true, false, not, ◌&&◌, ◌||◌}
 use Prim.Native.Nat.{ℕ, suc, ◌-◌, ◌^◌, ◌≤◌, ◌<◌}
@@ -17,8 +18,7 @@ use Rattle.rules.specs.State.{Memory, others, sound}
 use Rattle.rules.specs.Dwell.{shortest, longest, held, whole_tenths, held_seconds, tenths_of, read_if, read_cell, dwell}
 use Rattle.rules.specs.declared.Cell.{Cell}
 use Rattle.rules.specs.declared.Registers.{Registers}
-use Rattle.rules.specs.declared.Dwell.{Dwell}
-use Rattle.rules.specs.declared.Dwell.TheVariants.{Tenths, Unread}
+use Rattle.rules.specs.Answers.{Dwell}
 use Rattle.rules.specs.declared.DwellRefusal.{DwellRefusal}
 use Rattle.rules.specs.declared.DwellRefusal.TheVariants.{StateBroken, NotHalted, StackEmpty, OtherTag, NotANumber}
 use Rattle.rules.proofs.Tests.{by_test, either}
@@ -79,16 +79,16 @@ module _ (tag bits : ℕ) where
   abbrev the_cell : Cell
   the_cell = record { bits = bits; tag = tag }
 
-  pub cell_int : tag ≡ INT → read_cell the_cell ≡ Tenths (held (signed bits))
+  pub cell_int : tag ≡ INT → read_cell the_cell ≡ Ok (held (signed bits))
   cell_int e = rw (eq-eqb tag INT e, ne_eqb tag FLOAT (λ f. omega (arith, e, f)))
 
-  pub cell_other : (tag ≡ INT → ⊥) → (tag ≡ FLOAT → ⊥) → read_cell the_cell ≡ Unread OtherTag
+  pub cell_other : (tag ≡ INT → ⊥) → (tag ≡ FLOAT → ⊥) → read_cell the_cell ≡ Err OtherTag
   cell_other d e = rw (ne_eqb tag INT d, ne_eqb tag FLOAT e)
 
-  pub cell_nan : tag ≡ FLOAT → stands_for_nan bits ≡ true → read_cell the_cell ≡ Unread NotANumber
+  pub cell_nan : tag ≡ FLOAT → stands_for_nan bits ≡ true → read_cell the_cell ≡ Err NotANumber
   cell_nan e n = rw (ne_eqb tag INT (λ f. omega (arith, e, f)), eq-eqb tag FLOAT e, n)
 
-  pub cell_float : tag ≡ FLOAT → stands_for_nan bits ≡ false → read_cell the_cell ≡ Tenths (held_seconds bits)
+  pub cell_float : tag ≡ FLOAT → stands_for_nan bits ≡ false → read_cell the_cell ≡ Ok (held_seconds bits)
   cell_float e n = rw (ne_eqb tag INT (λ f. omega (arith, e, f)), eq-eqb tag FLOAT e, n)
 
 cell_between : (c : Cell) → Between (tenths_of c)
@@ -107,15 +107,15 @@ module _ (p : Program) (r : Registers) (m : Memory) where
       let f : Sound p r m = sound_facts p r m s in
       (omega (arith, f.some, f.bits), omega (arith, f.some, f.tags))
 
-  pub dwell_broken : sound p r m ≡ false → dwell p r m ≡ Unread StateBroken
+  pub dwell_broken : sound p r m ≡ false → dwell p r m ≡ Err StateBroken
   unfolding dwell
   dwell_broken s = rw s
 
-  pub dwell_running : sound p r m ≡ true → (r.halt ≡ 1 → ⊥) → dwell p r m ≡ Unread NotHalted
+  pub dwell_running : sound p r m ≡ true → (r.halt ≡ 1 → ⊥) → dwell p r m ≡ Err NotHalted
   unfolding dwell
   dwell_running s h = rw (s, ne_eqb r.halt 1 h)
 
-  pub dwell_empty : sound p r m ≡ true → r.halt ≡ 1 → r.sp ≡ 0 → dwell p r m ≡ Unread StackEmpty
+  pub dwell_empty : sound p r m ≡ true → r.halt ≡ 1 → r.sp ≡ 0 → dwell p r m ≡ Err StackEmpty
   unfolding dwell
   dwell_empty s h e = rw (s, eq-eqb r.halt 1 h, eq-eqb r.sp 0 e)
 
@@ -124,7 +124,7 @@ module _ (p : Program) (r : Registers) (m : Memory) where
   dwell_cell s h e = rw (s, eq-eqb r.halt 1 h, ne_eqb r.sp 0 e)
 
   -- whatever is read, it is a refusal, or tenths between the ends
-  pub dwell_either : (P : Dwell → Type 0) → ((e : DwellRefusal) → P (Unread e)) → ((t : ℕ) → Between t → P (Tenths t)) → P (dwell p r m)
+  pub dwell_either : (P : Dwell → Type 0) → ((e : DwellRefusal) → P (Err e)) → ((t : ℕ) → Between t → P (Ok t)) → P (dwell p r m)
   unfolding dwell
   dwell_either P refused read =
       either P (sound p r m)

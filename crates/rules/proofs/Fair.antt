@@ -1,5 +1,6 @@
 -- What an effect has to be, so that what it makes of a sound state is sound again: the statements that step, run and step-back lean on.
 -- Assumes nothing.
+use Rattle.std.specs.Prelude.{Option, Some, None, Ok}
 use Prim.Native.Nat.{ℕ, ◌+◌, ◌-◌, ◌^◌, ◌≤◌, ◌<◌}
 use mathlib.Core.Path.{◌≡◌}
 use mathlib.Core.Bool.{true}
@@ -12,9 +13,6 @@ use Rattle.rules.specs.State.{Memory}
 use Rattle.rules.specs.Commit.{room_on, room_for}
 use Rattle.rules.specs.Step.{decide_at}
 use Rattle.rules.specs.declared.Cell.{Cell}
-use Rattle.rules.specs.declared.Decision.TheVariants.{Does}
-use Rattle.rules.specs.declared.Shown.{Shown}
-use Rattle.rules.specs.declared.Shown.TheVariants.{Nothing, Byte}
 use Rattle.rules.specs.declared.Effect.{Effect}
 use Rattle.rules.specs.declared.Registers.{Registers}
 
@@ -55,12 +53,12 @@ pub record Going (p : Program) (r : Registers) (m : Memory) (e : Effect) : Type 
   pub sp : e.sp < r.n
   pub panel : room_on (length m.output) r.written e.shows ≡ true
   pub room : room_for r e ≡ true
-  pub decides : decide_at r m.cells (get_or p.places r.pc 0) ≡ Does e
+  pub decides : decide_at r m.cells (get_or p.places r.pc 0) ≡ Ok e
 
 -- what is shown is a character
-abbrev pub FairByte : Shown → Type 0
-FairByte Nothing = Unit {0}
-FairByte (Byte b) = b ≤ max_character
+abbrev pub FairByte : Option ℕ → Type 0
+FairByte None = Unit {0}
+FairByte (Some b) = b ≤ max_character
 
 -- the written cells lie within N, the new registers within their ranges, and what is written may be held
 pub record Fair (p : Program) (r : Registers) (e : Effect) : Type 0 where

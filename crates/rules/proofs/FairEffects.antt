@@ -1,4 +1,5 @@
 -- What an accepted step decides is fair: every instruction's effect lies within N and the program, in a sound state. Assumes nothing.
+use Rattle.std.specs.Prelude.{Ok, Err}
 use Prim.Native.Nat.{ℕ, zero, suc, ◌+◌, ◌-◌, ◌≤◌, ◌<◌, zero-le}
 use mathlib.Core.Path.{◌≡◌, refl, sym, ◌∙◌, subst}
 use mathlib.Core.Bool.{Bool, true, false, not, ◌&&◌, ◌||◌, false≢true}
@@ -26,8 +27,7 @@ use Rattle.rules.specs.declared.MemoryAddress.{MemoryAddress}
 use Rattle.rules.specs.declared.ProgramAddress.{ProgramAddress}
 use Rattle.rules.specs.declared.Registers.{Registers}
 use Rattle.rules.specs.declared.Effect.{Effect}
-use Rattle.rules.specs.declared.Decision.{Decision}
-use Rattle.rules.specs.declared.Decision.TheVariants.{Does, Refuses}
+use Rattle.rules.specs.Answers.{Decision}
 use Rattle.rules.specs.declared.MachineRefusal.{MachineRefusal}
 use Rattle.rules.proofs.Tests.{either, and_left, and_right, implies_true, every_at}
 use Rattle.rules.proofs.Table.{place_sound}
@@ -94,13 +94,13 @@ sound_facts p r m h =
 
 -- ---- a decision that does something passed its demands
 
-pub does_is : {x e : Effect} → Does x ≡ Does e → x ≡ e
+pub does_is : {x e : Effect} → ◌≡◌ {A = Decision} (Ok x) (Ok e) → x ≡ e
 does_is q = cc
 
-pub refuses_not : {A : Type 0} (x : MachineRefusal) (e : Effect) → Refuses x ≡ Does e → A
+pub refuses_not : {A : Type 0} (x : MachineRefusal) (e : Effect) → ◌≡◌ {A = Decision} (Err x) (Ok e) → A
 refuses_not x e q = let z : ◌≡◌ {A = ℕ} 0 1 = cc in absurd (let y : ⊥ = omega arith in y)
 
-pub demand_does : (b : Bool) (x : MachineRefusal) (d : Decision) (e : Effect) → demand b x d ≡ Does e → (b ≡ true) × (d ≡ Does e)
+pub demand_does : (b : Bool) (x : MachineRefusal) (d : Decision) (e : Effect) → demand b x d ≡ Ok e → (b ≡ true) × (d ≡ Ok e)
 demand_does true x d e q = (refl, q)
 demand_does false x d e q = refuses_not x e q
 
@@ -111,7 +111,7 @@ pub record Passed (r : Registers) (n : ℕ) (vb vt : Cell) (a : Action) : Type 0
   pub results : a.results vb.bits vt.bits ≡ true
   pub reaches : a.reaches r n vb vt ≡ true
 
-pub values_does : (r : Registers) (c : Cells) (n : ℕ) (vb vt : Cell) (a : Action) (e : Effect) → on_values r c n vb vt a ≡ Does e
+pub values_does : (r : Registers) (c : Cells) (n : ℕ) (vb vt : Cell) (a : Action) (e : Effect) → on_values r c n vb vt a ≡ Ok e
     → Passed r n vb vt a × (a.effect r c n vb vt ≡ e)
 values_does r c n vb vt a e q =
     let needs = demand_does _ _ _ e q in
@@ -121,13 +121,13 @@ values_does r c n vb vt a e q =
     (record { needs = needs.0; takes = takes.0; results = results.0; reaches = reaches.0 }, does_is reaches.1)
 
 -- what is done with a test asked of it passed it, and is what was decided before
-pub fitting_does : (test : Effect → Bool) (x : MachineRefusal) (d : Decision) (e : Effect) → fitting test x d ≡ Does e → (test e ≡ true) × (d ≡ Does e)
-fitting_does test x (Does f) e q =
-    let a = demand_does (test f) x (Does f) e q in
+pub fitting_does : (test : Effect → Bool) (x : MachineRefusal) (d : Decision) (e : Effect) → fitting test x d ≡ Ok e → (test e ≡ true) × (d ≡ Ok e)
+fitting_does test x (Ok f) e q =
+    let a = demand_does (test f) x (Ok f) e q in
     (subst (λ (y : Effect). test y ≡ true) (does_is a.1) a.0, a.1)
-fitting_does test x (Refuses y) e q = refuses_not y e q
+fitting_does test x (Err y) e q = refuses_not y e q
 
-pub judged_going : (p : Program) (r : Registers) (m : Memory) (e : Effect) → judged p r m.cells (length m.output) ≡ Does e → Going p r m e
+pub judged_going : (p : Program) (r : Registers) (m : Memory) (e : Effect) → judged p r m.cells (length m.output) ≡ Ok e → Going p r m e
 unfolding judged
 judged_going p r m e q =
     let a = demand_does _ _ _ e q in
@@ -321,7 +321,7 @@ going_below p r m e s g = ⊎_elim (λ q. absurd (g.inside q)) (λ h. h) (eq-or-
 
 -- the instruction at a place that can be assembled
 pub fair_place : (p : Program) (r : Registers) (m : Memory) (s : Sound p r m) (going : r.pc < p.count) (place : ℕ) (e : Effect)
-    → sound_place p.count place ≡ true → decide_at r m.cells place ≡ Does e → e.sp < r.n → Fair p r e
+    → sound_place p.count place ≡ true → decide_at r m.cells place ≡ Ok e → e.sp < r.n → Fair p r e
 unfolding decide_at decide kind_of action_of
 fair_place p r m s going place e h q l =
     let vb = cell_at m.cells (record { 0 = r.sp - 2 }) in
@@ -334,7 +334,7 @@ fair_place p r m s going place e h q l =
     (place_within p.count place h) d.0) l
 
 -- every instruction's effect is fair
-pub fair_judged : (p : Program) (r : Registers) (m : Memory) (e : Effect) → sound p r m ≡ true → judged p r m.cells (length m.output) ≡ Does e → Fair p r e
+pub fair_judged : (p : Program) (r : Registers) (m : Memory) (e : Effect) → sound p r m ≡ true → judged p r m.cells (length m.output) ≡ Ok e → Fair p r e
 fair_judged p r m e h q =
     let s : Sound p r m = sound_facts p r m h in
     let g : Going p r m e = judged_going p r m e q in

@@ -1,4 +1,5 @@
 -- A step-back undoes an accepted step exactly: cells with their tags, history and registers. Assumes nothing.
+use Rattle.std.specs.Prelude.{Ok}
 use Prim.Native.Nat.{ℕ, zero, suc, ◌+◌, ◌-◌, ◌^◌, ◌≤◌, ◌<◌}
 use mathlib.Core.Path.{◌≡◌, refl, sym, ap, ap₂, ◌∙◌, subst}
 use mathlib.Core.Bool.{Bool, true, false, not, ◌&&◌, ◌||◌, cond}
@@ -19,7 +20,6 @@ use Rattle.rules.specs.Records.{formed_record}
 use Rattle.rules.specs.Back.{top_record, top_place, formed_top, shows_at, can_drop, restored, undone_at, undone, plain_back, back}
 use Rattle.rules.specs.declared.Registers.{Registers}
 use Rattle.rules.specs.declared.Effect.{Effect}
-use Rattle.rules.specs.declared.Decision.TheVariants.{Does}
 use Rattle.rules.specs.declared.MachineRefusal.TheVariants.{Broken}
 use Rattle.rules.specs.declared.Step.TheVariants.{Next}
 use Rattle.rules.proofs.Zeros.{take_zeros, drop_zeros}
@@ -263,7 +263,7 @@ module _ (r : Registers) (e : Effect) (some : 0 < r.h) where
 
 -- a step-back undoes an accepted step exactly
 pub inverse : (p : Program) (r : Registers) (m : Memory) (e : Effect) → sound p r m ≡ true → Narrow m → Blank r m → 0 < r.h
-    → judged p r m.cells (length m.output) ≡ Does e → back p (registers_of r e) (memory_of r m e) ≡ record { answer = Next r; memory = m }
+    → judged p r m.cells (length m.output) ≡ Ok e → back p (registers_of r e) (memory_of r m e) ≡ record { answer = Next r; memory = m }
 unfolding back
 inverse p r m e h w blank some q =
     let s : Sound p r m = sound_facts p r m h in
@@ -283,7 +283,7 @@ module _ (u n h : ℕ) (l added : List ℕ) (low : u ≤ h) (ll : length l ≡ h
       ∙ ap (λ (k : ℕ). replicate k 0) left
   blank_after false q = blank
 
-pub blank_judged : (p : Program) (r : Registers) (m : Memory) (e : Effect) → sound p r m ≡ true → Blank r m → judged p r m.cells (length m.output) ≡ Does e
+pub blank_judged : (p : Program) (r : Registers) (m : Memory) (e : Effect) → sound p r m ≡ true → Blank r m → judged p r m.cells (length m.output) ≡ Ok e
     → Blank (registers_of r e) (memory_of r m e)
 blank_judged p r m e h blank q =
     let s : Sound p r m = sound_facts p r m h in

@@ -1,4 +1,5 @@
 -- The lines of a listing: of operands that are each one token, and at most twenty bytes each; and the three answers of the lister. Assumes nothing.
+use Rattle.std.specs.Prelude.{Err}
 use Prim.Native.Nat.{ℕ, zero, suc, ◌+◌, ◌*◌, ◌-◌, ◌/◌, ◌%◌, ◌^◌, ◌≤◌, ◌<◌}
 use mathlib.Core.Path.{◌≡◌, refl, ap, sym, ◌∙◌}
 use mathlib.Core.Bool.{Bool, true, false, ◌||◌}
@@ -18,7 +19,6 @@ use Rattle.rules.specs.Assemble.{allowed_run}
 use Rattle.rules.specs.Listing.{decimal, signed_text, hex_byte, hex, operand_text, spaced, line_of, listing, told, list}
 use Rattle.rules.specs.declared.Kind.{Kind}
 use Rattle.rules.specs.declared.Kind.TheVariants.{Bare, Immediate, Pattern, Offset, Target, Character}
-use Rattle.rules.specs.declared.Listed.TheVariants.{Failed}
 use Rattle.rules.specs.declared.TextRefusal.TheVariants.{BrokenTable, WrongLength}
 use Rattle.rules.proofs.Table.{table_short, place_sound, used_sound, used_count}
 use Rattle.rules.proofs.Tests.{by_test, and_left, and_right, below, at_below}
@@ -194,11 +194,11 @@ module _ (p : Program) (s : sound_table p ≡ true) where
 -- ---- the three answers
 
 module _ (p : Program) (out : List ℕ) where
-  pub list_refused : (length out ≡ listing_size → ⊥) → list p out ≡ record { answer = Failed WrongLength; bytes = out }
+  pub list_refused : (length out ≡ listing_size → ⊥) → list p out ≡ record { answer = Err WrongLength; bytes = out }
   unfolding list
   list_refused h = rw (ne_eqb (length out) listing_size h)
 
-  pub list_broken : length out ≡ listing_size → sound_table p ≡ false → list p out ≡ record { answer = Failed BrokenTable; bytes = replicate listing_size 0 }
+  pub list_broken : length out ≡ listing_size → sound_table p ≡ false → list p out ≡ record { answer = Err BrokenTable; bytes = replicate listing_size 0 }
   unfolding list
   list_broken h s = rw (eq-eqb (length out) listing_size h, s)
 

@@ -1,4 +1,5 @@
 -- A step keeps every cell at 32 bits: each word that an instruction makes of words is below 2 ^ 32. Assumes nothing.
+use Rattle.std.specs.Prelude.{Ok}
 use Prim.Native.Nat.{ℕ, ◌+◌, ◌-◌, ◌*◌, ◌%◌, ◌^◌, ◌<◌}
 use mathlib.Core.Path.{◌≡◌, refl, subst}
 use mathlib.Core.Bool.{Bool, true, false, not, ◌&&◌, ◌||◌}
@@ -26,7 +27,6 @@ use Rattle.rules.specs.Step.{decide_at, judged}
 use Rattle.rules.specs.declared.Cell.{Cell}
 use Rattle.rules.specs.declared.Registers.{Registers}
 use Rattle.rules.specs.declared.Effect.{Effect}
-use Rattle.rules.specs.declared.Decision.TheVariants.{Does}
 use Rattle.rules.proofs.Fair.{Sound, Going, Narrow}
 use Rattle.rules.proofs.FairEffects.{values_does, sound_facts, judged_going, going_below}
 use Rattle.rules.proofs.Rows.{EachRow, end, ◌then◌, at_code}
@@ -182,7 +182,7 @@ module _ (r : Registers) (m : Memory) (sp : r.sp < 2 ^ 32) (fbr : r.fbr < 2 ^ 32
 
 -- the instruction at a place
 slim_place : (r : Registers) (m : Memory) → r.sp < 2 ^ 32 → r.fbr < 2 ^ 32 → r.pc + 1 < 2 ^ 32 → Narrow m → (place : ℕ) (e : Effect)
-    → decide_at r m.cells place ≡ Does e → Slim e
+    → decide_at r m.cells place ≡ Ok e → Slim e
 unfolding decide_at decide action_of
 slim_place r m sp fbr pc cells place e q =
     let vb = cell_at m.cells (record { 0 = r.sp - 2 }) in
@@ -194,7 +194,7 @@ slim_place r m sp fbr pc cells place e q =
 
 -- ---- what an accepted step writes
 
-module _ (p : Program) (r : Registers) (m : Memory) (e : Effect) (cells : Narrow m) (h : sound p r m ≡ true) (q : judged p r m.cells (length m.output) ≡ Does e) where
+module _ (p : Program) (r : Registers) (m : Memory) (e : Effect) (cells : Narrow m) (h : sound p r m ≡ true) (q : judged p r m.cells (length m.output) ≡ Ok e) where
   pub narrow_judged : (e.first.bits < 2 ^ 32) × (e.second.bits < 2 ^ 32)
   narrow_judged =
       let s : Sound p r m = sound_facts p r m h in

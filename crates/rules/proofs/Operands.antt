@@ -1,4 +1,5 @@
 -- Number operands: what digits after digits make, and which texts are read as numbers and as bits. Assumes nothing.
+use Rattle.std.specs.Prelude.{Ok}
 use Prim.Native.Nat.{ℕ, ◌+◌, ◌*◌, ◌-◌, ◌≤◌, ◌<◌}
 use mathlib.Core.Path.{◌≡◌, refl, sym}
 use mathlib.Core.Bool.{true, false, ◌&&◌, and_assoc}
@@ -9,7 +10,6 @@ use lib.ListN.{length, drop, get_or}
 use borrow.Author.Tests.{ne_eqb, le-leb, eq-eqb}
 use Rattle.rules.specs.Bytes.{hash, minus_sign}
 use Rattle.rules.specs.Operands.{digit_of, all_digits, numeral, is_numeral, signs, negated, ranged, number_of, pattern_of}
-use Rattle.rules.specs.declared.Numeral.TheVariants.{Value}
 
 pub digit_09 : (b : ℕ) → 48 ≤ b → b ≤ 57 → digit_of b ≡ b - 48
 unfolding digit_of
@@ -34,11 +34,11 @@ unfolding signs
 signs_other [] k = refl
 signs_other (b ∷ s) k = rw (ne_eqb b minus_sign k)
 
-pub ranged_least : (least most n : ℕ) → n ≤ least → ranged least most true n ≡ Value (negated n)
+pub ranged_least : (least most n : ℕ) → n ≤ least → ranged least most true n ≡ Ok (negated n)
 unfolding ranged
 ranged_least least most n h = rw (le-leb n least h)
 
-pub ranged_most : (least most n : ℕ) → n ≤ most → ranged least most false n ≡ Value n
+pub ranged_most : (least most n : ℕ) → n ≤ most → ranged least most false n ≡ Ok n
 unfolding ranged
 ranged_most least most n h = rw (le-leb n most h)
 
@@ -52,6 +52,6 @@ pub number_value : (least most : ℕ) (t ds : List ℕ) → drop (signs t) t ≡
 unfolding number_of
 number_value least most t ds e h l k = rw (e, numeral_some ds h k, le-leb (length ds) 10 l)
 
-pub pattern_value : (ds : List ℕ) → length ds ≡ 8 → all_digits 16 ds ≡ true → pattern_of (hash ∷ ds) ≡ Value (numeral 16 0 ds)
+pub pattern_value : (ds : List ℕ) → length ds ≡ 8 → all_digits 16 ds ≡ true → pattern_of (hash ∷ ds) ≡ Ok (numeral 16 0 ds)
 unfolding pattern_of
 pattern_value ds h k = rw (eq-eqb (length ds) 8 h, k)

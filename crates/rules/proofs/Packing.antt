@@ -1,4 +1,5 @@
 -- The laws of the packer's definitions: the bits of a program, instruction after instruction, and the three answers. Assumes nothing.
+use Rattle.std.specs.Prelude.{Ok, Err}
 use Prim.Native.Nat.{ℕ, ◌+◌, ◌*◌, ◌≤◌, ◌<◌}
 use mathlib.Core.Path.{◌≡◌, refl, sym, ap, ap₂, ◌∙◌}
 use mathlib.Core.Bool.{true, false}
@@ -17,7 +18,6 @@ use Rattle.rules.specs.Image.{count_width, code_width, width_of, instruction_bit
 use Rattle.rules.specs.declared.Kind.{Kind}
 use Rattle.rules.specs.declared.Kind.TheVariants.{Bare, Immediate, Pattern, Offset, Target, Character}
 use Rattle.rules.specs.declared.ImageRefusal.TheVariants.{TableBroken, OutputLength}
-use Rattle.rules.specs.declared.Packed.TheVariants.{Length, Denied}
 use Rattle.rules.proofs.Fields.{field_length}
 use Rattle.rules.proofs.Splice.{splice_beside}
 use Rattle.rules.proofs.Table.{table_short, used_count}
@@ -108,15 +108,15 @@ image_fits p s =
 -- ---- the three answers
 module _ (p : Program) (out : List ℕ) where
   abbrev accepted : Filed
-  accepted = record { answer = Length (image_length p); output = packed_to image_size (image_bits p) }
+  accepted = record { answer = Ok (image_length p); output = packed_to image_size (image_bits p) }
 
   -- 31
-  pub pack_length : (length out ≡ image_size → ⊥) → pack p out ≡ record { answer = Denied OutputLength; output = out }
+  pub pack_length : (length out ≡ image_size → ⊥) → pack p out ≡ record { answer = Err OutputLength; output = out }
   unfolding pack
   pack_length h = rw (ne_eqb (length out) image_size h)
 
   -- 10
-  pub pack_broken : length out ≡ image_size → sound_table p ≡ false → pack p out ≡ record { answer = Denied TableBroken; output = replicate image_size 0 }
+  pub pack_broken : length out ≡ image_size → sound_table p ≡ false → pack p out ≡ record { answer = Err TableBroken; output = replicate image_size 0 }
   unfolding pack
   pack_broken h e = rw (eq-eqb (length out) image_size h, e)
 

@@ -1,5 +1,6 @@
 -- The output: a byte that a step appends is dropped again, and what was zero is zero again; and a step appends one exactly where its instruction is a WRITECH.
 -- Assumes nothing.
+use Rattle.std.specs.Prelude.{Option, Some, None}
 use Prim.Native.Nat.{ℕ, ◌+◌, ◌-◌, ◌<◌}
 use mathlib.Core.Path.{◌≡◌, refl, sym, ap, ◌∙◌}
 use mathlib.Core.Bool.{Bool, true, false, not, ◌||◌}
@@ -20,8 +21,6 @@ use Rattle.rules.specs.Step.{decide_at}
 use Rattle.rules.specs.Back.{shows_at, written_back, output_back}
 use Rattle.rules.specs.declared.Cell.{Cell}
 use Rattle.rules.specs.declared.Registers.{Registers}
-use Rattle.rules.specs.declared.Shown.{Shown}
-use Rattle.rules.specs.declared.Shown.TheVariants.{Nothing, Byte}
 use Rattle.rules.specs.declared.Effect.{Effect}
 use Rattle.rules.proofs.Zeros.{take_zeros, drop_zeros}
 use Rattle.rules.proofs.Splice.{rest_splice, splice_back, sets_splice}
@@ -31,23 +30,23 @@ use Rattle.rules.proofs.Fair.{Sound, Going}
 use Rattle.rules.proofs.FairEffects.{values_does, going_below}
 
 -- whether a byte is shown
-abbrev pub is_shown : Shown → Bool
-is_shown Nothing = false
-is_shown (Byte b) = true
+abbrev pub is_shown : Option ℕ → Bool
+is_shown None = false
+is_shown (Some b) = true
 
 -- a byte written is a list of one written
 set_splice : (l : List ℕ) (i v : ℕ) → i < length l → set l i v ≡ splice l i (v ∷ [])
 set_splice l i v h = sets_splice (v ∷ []) l i (omega arith)
 
 module _ (o : List ℕ) (w : ℕ) where
-  pub written_back_lem : (x : Shown) → written_back (is_shown x) (written_after x w) ≡ w
-  written_back_lem Nothing = refl
-  written_back_lem (Byte b) = omega arith
+  pub written_back_lem : (x : Option ℕ) → written_back (is_shown x) (written_after x w) ≡ w
+  written_back_lem None = refl
+  written_back_lem (Some b) = omega arith
 
-  pub output_back_lem : (x : Shown) → room_on (length o) w x ≡ true → drop w o ≡ replicate (length o - w) 0
+  pub output_back_lem : (x : Option ℕ) → room_on (length o) w x ≡ true → drop w o ≡ replicate (length o - w) 0
       → output_back (is_shown x) (written_after x w) (output_after x w o) ≡ o
-  output_back_lem Nothing q blank = refl
-  output_back_lem (Byte b) q blank =
+  output_back_lem None q blank = refl
+  output_back_lem (Some b) q blank =
       let low : w < length o = ltb-true w (length o) q in
       let back : w + 1 - 1 ≡ w = omega arith in
       let kept : length (set o w b) ≡ length o = length-set o w b in
@@ -55,19 +54,19 @@ module _ (o : List ℕ) (w : ℕ) where
       ∙ ap (λ (l : List ℕ). splice l w (0 ∷ [])) (set_splice o w b low)
       ∙ splice_back o w 1 (b ∷ []) (0 ∷ []) refl (omega arith) (sym (ap (take 1) blank ∙ take_zeros 1 (length o - w) (omega arith)))
 
-  pub blank_output : (x : Shown) → room_on (length o) w x ≡ true → drop w o ≡ replicate (length o - w) 0
+  pub blank_output : (x : Option ℕ) → room_on (length o) w x ≡ true → drop w o ≡ replicate (length o - w) 0
       → drop (written_after x w) (output_after x w o) ≡ replicate (length o - written_after x w) 0
-  blank_output Nothing q blank = blank
-  blank_output (Byte b) q blank =
+  blank_output None q blank = blank
+  blank_output (Some b) q blank =
       let low : w < length o = ltb-true w (length o) q in
       let left : length o - w - 1 ≡ length o - (w + 1) = omega arith in
       ap (drop (w + 1)) (set_splice o w b low) ∙ rest_splice o w (b ∷ []) (omega arith) 1 refl
       ∙ sym (drop-drop 1 w o) ∙ ap (drop 1) blank ∙ drop_zeros 1 (length o - w) ∙ ap (λ (k : ℕ). replicate k 0) left
 
 -- a byte that can be dropped was written
-pub drops : (x : Shown) (w : ℕ) → (not (is_shown x) || ltb 0 (written_after x w)) ≡ true
-drops Nothing w = refl
-drops (Byte b) w = lt-ltb 0 (w + 1) (omega arith)
+pub drops : (x : Option ℕ) (w : ℕ) → (not (is_shown x) || ltb 0 (written_after x w)) ≡ true
+drops None w = refl
+drops (Some b) w = lt-ltb 0 (w + 1) (omega arith)
 
 -- ---- an accepted step shows a byte exactly where its instruction is a WRITECH
 

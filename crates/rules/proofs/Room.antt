@@ -1,5 +1,6 @@
 -- What a step decides does not hang on H, U or the kept number, but for 8, which is asked last. So a machine decides as one of no history does, and then asks
 -- for room. Assumes nothing.
+use Rattle.std.specs.Prelude.{Ok, Err}
 use Prim.Native.Nat.{ℕ, ◌-◌}
 use mathlib.Core.Path.{◌≡◌, refl, ap, ap₂, subst, ◌∙◌}
 use mathlib.Core.Bool.{Bool, true, false, not, true≢false}
@@ -16,8 +17,7 @@ use Rattle.rules.specs.Step.{decide_at, in_stack, in_output, in_history, fitted,
 use Rattle.rules.specs.declared.Cell.{Cell}
 use Rattle.rules.specs.declared.Registers.{Registers}
 use Rattle.rules.specs.declared.Effect.{Effect}
-use Rattle.rules.specs.declared.Decision.{Decision}
-use Rattle.rules.specs.declared.Decision.TheVariants.{Does, Refuses}
+use Rattle.rules.specs.Answers.{Decision}
 use Rattle.rules.specs.declared.MachineRefusal.TheVariants.{AlreadyHalted, AtEnd, TooFewValues, WrongTag, NoResult, BadAddress, StackFull, HistoryFull, OutputFull}
 use Rattle.rules.proofs.Rows.{EachRow, end, ◌then◌, at_code}
 use Rattle.rules.proofs.FairEffects.{fitting_does}
@@ -50,7 +50,7 @@ decide_others r c place =
     let same = at_code Same same_rows (code_of place) in
     ap₂ (λ (b : Bool) (e : Effect).
     demand (enough (a.needs n) r.sp) TooFewValues
-    (demand (a.takes vb.tag vt.tag) WrongTag (demand (a.results vb.bits vt.bits) NoResult (demand b BadAddress (Does e)))))
+    (demand (a.takes vb.tag vt.tag) WrongTag (demand (a.results vb.bits vt.bits) NoResult (demand b BadAddress (Ok e)))))
     (λ i. same.0 i r n vb vt) (λ i. same.1 i r c n vb vt)
 
 -- ---- 8, asked last
@@ -66,16 +66,16 @@ judged_room p r c size =
         → demand a AlreadyHalted (demand b AtEnd (in_history r d)) ≡ in_history r (demand a AlreadyHalted (demand b AtEnd (in_history (others r) d)))
     asked false b d = refl
     asked true false d = refl
-    asked true true (Does e) = refl
-    asked true true (Refuses x) = refl
+    asked true true (Ok e) = refl
+    asked true true (Err x) = refl
 
 -- where it has room, it decides the same
-pub judged_others : (p : Program) (r : Registers) (c : Cells) (size : ℕ) (e : Effect) → judged p (others r) c size ≡ Does e → room_for r e ≡ true
-    → judged p r c size ≡ Does e
-judged_others p r c size e q room = judged_room p r c size ∙ ap (in_history r) q ∙ ap (λ (b : Bool). demand b HistoryFull (Does e)) room
+pub judged_others : (p : Program) (r : Registers) (c : Cells) (size : ℕ) (e : Effect) → judged p (others r) c size ≡ Ok e → room_for r e ≡ true
+    → judged p r c size ≡ Ok e
+judged_others p r c size e q room = judged_room p r c size ∙ ap (in_history r) q ∙ ap (λ (b : Bool). demand b HistoryFull (Ok e)) room
 
 -- what is done was decided, and had room
-pub room_does : (r : Registers) (d : Decision) (e : Effect) → in_history r d ≡ Does e → (room_for r e ≡ true) × (d ≡ Does e)
+pub room_does : (r : Registers) (d : Decision) (e : Effect) → in_history r d ≡ Ok e → (room_for r e ≡ true) × (d ≡ Ok e)
 room_does r d e q = fitting_does (room_for r) HistoryFull d e q
 
 -- ---- with H = 0 there is no 8
@@ -93,13 +93,13 @@ spares_decided r c place =
     spares_demand is_full (enough (a.needs n) r.sp) TooFewValues _ refl
     (spares_demand is_full (a.takes vb.tag vt.tag) WrongTag _ refl
     (spares_demand is_full (a.results vb.bits vt.bits) NoResult _ refl
-    (spares_demand is_full (a.reaches r n vb vt) BadAddress (Does (a.effect r c n vb vt)) refl tt)))
+    (spares_demand is_full (a.reaches r n vb vt) BadAddress (Ok (a.effect r c n vb vt)) refl tt)))
 
 spares_room : (r : Registers) (d : Decision) → Spares is_full d → Spares is_full (in_history (others r) d)
-spares_room r (Does e) h = tt
-spares_room r (Refuses x) h = h
+spares_room r (Ok e) h = tt
+spares_room r (Err x) h = h
 
-pub never_full : (p : Program) (r : Registers) (c : Cells) (size : ℕ) → judged p (others r) c size ≡ Refuses HistoryFull → ⊥
+pub never_full : (p : Program) (r : Registers) (c : Cells) (size : ℕ) → judged p (others r) c size ≡ Err HistoryFull → ⊥
 unfolding judged
 never_full p r c size q = true≢false (subst (Spares is_full) q spares)
   where

@@ -1,6 +1,7 @@
 -- The laws of the saved state's definitions: each answer of a save and of a load, and how long an image is. Assumes nothing.
+use Rattle.std.specs.Prelude.{Ok, Err, is_ok, IsOk}
 use Prim.Native.Nat.{ℕ, ◌+◌, ◌*◌, ◌≤◌, ◌<◌}
-use mathlib.Core.Path.{◌≡◌, refl, sym, ap, ap₂, ◌∙◌}
+use mathlib.Core.Path.{◌≡◌, refl, sym, ap, ap₂, subst, ◌∙◌}
 use mathlib.Core.Bool.{Bool, true, false, cond}
 use mathlib.Core.List.{List, [], ◌∷◌, ◌++◌}
 use native.Mathlib.Omega.{arith}
@@ -14,15 +15,12 @@ use Rattle.rules.specs.Fields.{bits_of, packed_to, bytes_for, padded, side}
 use Rattle.rules.specs.Cells.{Cells}
 use Rattle.rules.specs.Table.{Program}
 use Rattle.rules.specs.State.{Memory, sound}
-use Rattle.rules.specs.Reset.{cleared}
 use Rattle.rules.specs.SavedState.{head_layout, head_of, saved_cell_layout, saved_cell_width, cells_saved, state_bits, save, told_cells, told_bytes, registers_in, announced, Loading, not_loaded, loaded, lent_sizes, entry, entered, sound_in, load}
 use Rattle.rules.specs.declared.Registers.{Registers}
 use Rattle.rules.specs.declared.SaveRefusal.TheVariants.{UnsoundState, ImageLength}
 use Rattle.rules.specs.declared.LoadRefusal.{LoadRefusal}
 use Rattle.rules.specs.declared.LoadRefusal.TheVariants.{OutsideRanges, StateEndsEarly, StatePadding, OtherSizes}
-use Rattle.rules.specs.declared.Saved.TheVariants.{Bytes, NotSaved}
-use Rattle.rules.specs.declared.Resumed.{Resumed}
-use Rattle.rules.specs.declared.Resumed.TheVariants.{Going, NotGoing}
+use Rattle.rules.specs.Answers.{Resumed, Entry}
 use Rattle.rules.proofs.Tests.{by_test, every_at}
 use Rattle.rules.proofs.Fields.{bits_of_length}
 use Rattle.rules.proofs.Bits.{Bits, bits_append, bits_bytes}
@@ -32,25 +30,28 @@ use Rattle.rules.proofs.Fair.{Sound}
 -- ---- the answers of a save
 module _ (p : Program) (r : Registers) (m : Memory) (image : List ℕ) where
   -- 31
-  pub save_length : (length image ≡ state_size → ⊥) → save p r m image ≡ record { answer = NotSaved ImageLength; image = image }
+  pub save_length : (length image ≡ state_size → ⊥) → save p r m image ≡ record { answer = Err ImageLength; image = image }
   unfolding save
   save_length h = rw (ne_eqb (length image) state_size h)
 
   -- 10
-  pub save_broken : length image ≡ state_size → sound p r m ≡ false → save p r m image ≡ record { answer = NotSaved UnsoundState; image = replicate state_size 0 }
+  pub save_broken : length image ≡ state_size → sound p r m ≡ false → save p r m image ≡ record { answer = Err UnsoundState; image = replicate state_size 0 }
   unfolding save
   save_broken h e = rw (eq-eqb (length image) state_size h, e)
 
   pub save_done : length image ≡ state_size → sound p r m ≡ true
-      → save p r m image ≡ record { answer = Bytes (bytes_for (length (state_bits r m.cells m.output))); image = packed_to state_size (state_bits r m.cells m.output) }
+      → save p r m image ≡ record { answer = Ok (bytes_for (length (state_bits r m.cells m.output))); image = packed_to state_size (state_bits r m.cells m.output) }
   unfolding save
   save_done h e = rw (eq-eqb (length image) state_size h, e)
 
 -- ---- what a load asks first
 
 -- a refusal is no acceptance
-apart : {A : Type 0} (e : LoadRefusal) → NotGoing e ≡ Going → A
-apart e q = let z : ◌≡◌ {A = ℕ} 0 1 = cc in absurd (let y : ⊥ = omega arith in y)
+refused_not : {A : Type 0} → false ≡ true → A
+refused_not q = let z : ◌≡◌ {A = ℕ} 0 1 = cc in absurd (let y : ⊥ = omega arith in y)
+
+apart : {A : Type 0} (e : LoadRefusal) → ◌≡◌ {A = Entry} (Err e) (Ok tt) → A
+apart e q = refused_not (ap is_ok q)
 
 module _ (image : List ℕ) (bits tags history output : ℕ) where
   abbrev l : List ℕ
@@ -62,21 +63,21 @@ module _ (image : List ℕ) (bits tags history output : ℕ) where
   abbrev lent : Bool
   lent = every (lent_sizes (told_cells l) bits tags history output)
 
-  chosen : {x y : Bool} → complete ≡ x → lent ≡ y → entry image bits tags history output ≡ cond x (cond y Going (NotGoing OtherSizes)) (NotGoing StateEndsEarly)
+  chosen : {x y : Bool} → complete ≡ x → lent ≡ y → entry image bits tags history output ≡ cond x (cond y (Ok tt) (Err OtherSizes)) (Err StateEndsEarly)
   unfolding entry
-  chosen f g = ap₂ (λ (x y : Bool). cond x (cond y Going (NotGoing OtherSizes)) (NotGoing StateEndsEarly)) f g
+  chosen f g = ap₂ (λ (x y : Bool). cond x (cond y (Ok tt) (Err OtherSizes)) (Err StateEndsEarly)) f g
 
-  pub entry_early : length image * 8 < announced (told_cells l) (told_bytes l) → entry image bits tags history output ≡ NotGoing StateEndsEarly
+  pub entry_early : length image * 8 < announced (told_cells l) (told_bytes l) → entry image bits tags history output ≡ Err StateEndsEarly
   entry_early h = let f : length l < announced (told_cells l) (told_bytes l) = omega (arith, h, bits_of_length image) in chosen (lt-leb _ _ f) refl
 
   module _ (whole : announced (told_cells l) (told_bytes l) ≤ length image * 8) where
     is_complete : complete ≡ true
     is_complete = let f : announced (told_cells l) (told_bytes l) ≤ length l = omega (arith, whole, bits_of_length image) in le-leb _ _ f
 
-    pub entry_sizes : lent ≡ false → entry image bits tags history output ≡ NotGoing OtherSizes
+    pub entry_sizes : lent ≡ false → entry image bits tags history output ≡ Err OtherSizes
     entry_sizes f = chosen is_complete f
 
-    pub entry_going : lent ≡ true → entry image bits tags history output ≡ Going
+    pub entry_going : lent ≡ true → entry image bits tags history output ≡ Ok tt
     entry_going f = chosen is_complete f
 
   -- what is so where neither 41 nor 67 is given
@@ -87,11 +88,11 @@ module _ (image : List ℕ) (bits tags history output : ℕ) where
     pub short : history ≤ max_history
     pub shown : output ≤ max_output
 
-  pub facts_entry : Entered → entry image bits tags history output ≡ Going
+  pub facts_entry : Entered → entry image bits tags history output ≡ Ok tt
   facts_entry e =
       entry_going e.whole (simp (eq-eqb _ _ e.cells, eq-eqb _ _ e.tagged, le-leb _ _ e.short, le-leb _ _ e.shown))
 
-  pub entry_facts : entry image bits tags history output ≡ Going → Entered
+  pub entry_facts : entry image bits tags history output ≡ Ok tt → Entered
   entry_facts q =
       by_test complete
       (λ f.
@@ -114,7 +115,7 @@ module _ (image : List ℕ) (p : Program) (m : Memory) where
   abbrev bits : List ℕ
   bits = bits_of image
 
-  abbrev pub entry_of : Resumed
+  abbrev pub entry_of : Entry
   entry_of = entry image (length m.cells.bits) (length m.cells.tags) (length m.history) (length m.output)
 
   -- the registers that it would leave
@@ -128,18 +129,18 @@ module _ (image : List ℕ) (p : Program) (m : Memory) where
   is_padded = padded (drop (announced registers_held.n registers_held.written) bits)
 
   -- one after the other
-  abbrev ordered : Resumed → (sound padded : Bool) → Loading
+  abbrev ordered : Entry → (sound padded : Bool) → Loading
   ordered e z w =
       entered e m (cond z (cond w (loaded registers_held bits m) (not_loaded m StatePadding)) (not_loaded m OutsideRanges))
 
-  load_by : {e : Resumed} {z w : Bool} → entry_of ≡ e → is_sound ≡ z → is_padded ≡ w → load image p m ≡ ordered e z w
+  load_by : {e : Entry} {z w : Bool} → entry_of ≡ e → is_sound ≡ z → is_padded ≡ w → load image p m ≡ ordered e z w
   unfolding load
-  load_by {e} f g h = ap (λ (x : Resumed). ordered x is_sound is_padded) f ∙ ap₂ (ordered e) g h
+  load_by {e} f g h = ap (λ (x : Entry). ordered x is_sound is_padded) f ∙ ap₂ (ordered e) g h
 
-  pub load_entry : (e : LoadRefusal) → entry_of ≡ NotGoing e → load image p m ≡ not_loaded m e
+  pub load_entry : (e : LoadRefusal) → entry_of ≡ Err e → load image p m ≡ not_loaded m e
   load_entry e f = load_by f refl refl
 
-  module _ (going : entry_of ≡ Going) where
+  module _ (going : entry_of ≡ Ok tt) where
     pub load_ranges : is_sound ≡ false → load image p m ≡ not_loaded m OutsideRanges
     load_ranges g = load_by going g refl
 
@@ -152,7 +153,7 @@ module _ (image : List ℕ) (p : Program) (m : Memory) where
 
   -- a load that is accepted: its tests passed
   pub record AcceptedLoad : Type 0 where
-    pub enters : entry_of ≡ Going
+    pub enters : entry_of ≡ Ok tt
     pub judged : is_sound ≡ true
     pub padding : is_padded ≡ true
     pub leaves : load image p m ≡ loaded registers_held bits m
@@ -165,9 +166,9 @@ module _ (image : List ℕ) (p : Program) (m : Memory) where
   outcome : Outcome
   outcome = go entry_of refl
     where
-      go : (e : Resumed) → entry_of ≡ e → Outcome
-      go (NotGoing e) f = refused e (load_entry e f)
-      go Going f =
+      go : (e : Entry) → entry_of ≡ e → Outcome
+      go (Err e) f = refused e (load_entry e f)
+      go (Ok tt) f =
           by_test is_sound
           (λ g.
           by_test is_padded
@@ -175,22 +176,22 @@ module _ (image : List ℕ) (p : Program) (m : Memory) where
           (λ h. refused StatePadding (load_padding f g h)))
           (λ g. refused OutsideRanges (load_ranges f g))
 
-  pub load_accepted : (load image p m).answer.resumed ≡ Going → AcceptedLoad
+  pub load_accepted : IsOk (load image p m).answer → AcceptedLoad
   load_accepted q = go outcome
     where
       go : Outcome → AcceptedLoad
       go (taken a) = a
-      go (refused e f) = apart e (sym (ap (λ (o : Loading). o.answer.resumed) f) ∙ q)
+      go (refused e f) = refused_not (subst (λ (o : Loading). IsOk o.answer) f q)
 
-  pub load_refused : (k : LoadRefusal) → (load image p m).answer.resumed ≡ NotGoing k → load image p m ≡ not_loaded m k
+  pub load_refused : (k : LoadRefusal) → (load image p m).answer ≡ Err k → load image p m ≡ not_loaded m k
   load_refused k q = go outcome
     where
       go : Outcome → load image p m ≡ not_loaded m k
-      go (taken a) = apart k (sym q ∙ ap (λ (o : Loading). o.answer.resumed) a.leaves)
+      go (taken a) = refused_not (subst IsOk (sym (ap (λ (o : Loading). o.answer) a.leaves) ∙ q) refl)
       go (refused e f) =
           f
-          ∙ ap {B = Loading} (λ (x : Resumed). record { answer = record { resumed = x; registers = cleared 0 0 }; memory = m })
-          (sym (ap (λ (o : Loading). o.answer.resumed) f) ∙ q)
+          ∙ ap {B = Loading} (λ (x : Resumed). record { answer = x; memory = m })
+          (sym (ap (λ (o : Loading). o.answer) f) ∙ q)
 
 -- ---- how long an image is
 

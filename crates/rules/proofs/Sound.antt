@@ -1,4 +1,5 @@
 -- A sound state that takes an accepted step is sound again; so a plain step is a step there. Assumes nothing.
+use Rattle.std.specs.Prelude.{Option, Some, None, Ok, Err}
 use Prim.Native.Nat.{ℕ, zero, suc, ◌+◌, ◌-◌, ◌≤◌, zero-le, min}
 use mathlib.Core.Path.{◌≡◌, refl, sym, ap, ap₂, ◌∙◌, subst, subst₂}
 use mathlib.Core.Bool.{Bool, true, false, not, ◌&&◌, ◌||◌}
@@ -19,11 +20,8 @@ use Rattle.rules.specs.Commit.{block, cell_places, cells_kept, record_of, keeps,
 use Rattle.rules.specs.Step.{judged, carried, plain_step, step}
 use Rattle.rules.specs.declared.Cell.{Cell}
 use Rattle.rules.specs.declared.Registers.{Registers}
-use Rattle.rules.specs.declared.Shown.{Shown}
-use Rattle.rules.specs.declared.Shown.TheVariants.{Nothing, Byte}
 use Rattle.rules.specs.declared.Effect.{Effect}
-use Rattle.rules.specs.declared.Decision.{Decision}
-use Rattle.rules.specs.declared.Decision.TheVariants.{Does, Refuses}
+use Rattle.rules.specs.Answers.{Decision}
 use Rattle.rules.specs.declared.MachineRefusal.TheVariants.{Broken}
 use Rattle.rules.specs.declared.Step.TheVariants.{Next}
 use Rattle.rules.proofs.Zeros.{zeros_at_lem}
@@ -157,13 +155,13 @@ module _ (k u n : ℕ) (some : 1 ≤ n) where
 
 -- ---- the output after, with a byte or without
 module _ (o : List ℕ) (w : ℕ) where
-  pub output_length : (x : Shown) → length (output_after x w o) ≡ length o
-  output_length Nothing = refl
-  output_length (Byte b) = length-set o w b
+  pub output_length : (x : Option ℕ) → length (output_after x w o) ≡ length o
+  output_length None = refl
+  output_length (Some b) = length-set o w b
 
-  written_after_lem : (x : Shown) → w ≤ length o → room_on (length o) w x ≡ true → written_after x w ≤ length o
-  written_after_lem Nothing h q = h
-  written_after_lem (Byte b) h q = omega (arith, ltb-true w (length o) q)
+  written_after_lem : (x : Option ℕ) → w ≤ length o → room_on (length o) w x ≡ true → written_after x w ≤ length o
+  written_after_lem None h q = h
+  written_after_lem (Some b) h q = omega (arith, ltb-true w (length o) q)
 
 -- ---- a fair effect leaves a sound state sound
 
@@ -202,7 +200,7 @@ sound_commit p r m e s f panel room =
           e.count e.first.tag e.first.bits e.second.tag e.second.bits f.first f.second);
     }
 
-pub sound_judged : (p : Program) (r : Registers) (m : Memory) (e : Effect) → sound p r m ≡ true → judged p r m.cells (length m.output) ≡ Does e
+pub sound_judged : (p : Program) (r : Registers) (m : Memory) (e : Effect) → sound p r m ≡ true → judged p r m.cells (length m.output) ≡ Ok e
     → sound p (registers_of r e) (memory_of r m e) ≡ true
 sound_judged p r m e h q =
     facts_sound p (registers_of r e) (memory_of r m e)
@@ -217,10 +215,10 @@ step_plain p r m h = ap (λ (b : Bool). carried r m (demand b Broken (judged p r
 -- the state that an accepted step leaves is sound
 carried_sound : (p : Program) (r r' : Registers) (m : Memory) (d : Decision) → sound p r m ≡ true → judged p r m.cells (length m.output) ≡ d
     → (carried r m d).answer ≡ Next r' → sound p r' (carried r m d).memory ≡ true
-carried_sound p r r' m (Does e) h q a =
+carried_sound p r r' m (Ok e) h q a =
     let same : registers_of r e ≡ r' = cc in
     subst (λ (x : Registers). sound p x (memory_of r m e) ≡ true) same (sound_judged p r m e h q)
-carried_sound p r r' m (Refuses x) h q a = let z : ◌≡◌ {A = ℕ} 0 1 = cc in absurd (let y : ⊥ = omega arith in y)
+carried_sound p r r' m (Err x) h q a = let z : ◌≡◌ {A = ℕ} 0 1 = cc in absurd (let y : ⊥ = omega arith in y)
 
 pub sound_step : (p : Program) (r r' : Registers) (m : Memory) → sound p r m ≡ true → (plain_step p r m).answer ≡ Next r'
     → sound p r' (plain_step p r m).memory ≡ true

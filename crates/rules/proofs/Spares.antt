@@ -1,4 +1,5 @@
 -- Decisions that do not meet some refusals, which a test tells by their numbers. Assumes nothing.
+use Rattle.std.specs.Prelude.{Ok, Err}
 use Prim.Native.Nat.{ℕ}
 use mathlib.Core.Path.{◌≡◌}
 use mathlib.Core.Bool.{Bool, true, false, false≢true}
@@ -6,13 +7,12 @@ use Rattle.rules.specs.Decide.{demand}
 use Rattle.rules.specs.Numbers.{machine_number}
 use Rattle.rules.specs.Step.{fitting}
 use Rattle.rules.specs.declared.Effect.{Effect}
-use Rattle.rules.specs.declared.Decision.{Decision}
-use Rattle.rules.specs.declared.Decision.TheVariants.{Does, Refuses}
+use Rattle.rules.specs.Answers.{Decision}
 use Rattle.rules.specs.declared.MachineRefusal.{MachineRefusal}
 
 abbrev pub Spares : (meets : ℕ → Bool) → Decision → Type 0
-Spares meets (Does e) = Unit {0}
-Spares meets (Refuses x) = meets (machine_number x) ≡ false
+Spares meets (Ok e) = Unit {0}
+Spares meets (Err x) = meets (machine_number x) ≡ false
 
 module _ (meets : ℕ → Bool) where
   -- another refusal is asked for; one of them is, and passed
@@ -26,5 +26,5 @@ module _ (meets : ℕ → Bool) where
 
   pub spares_fitting : (test : Effect → Bool) (x : MachineRefusal) (d : Decision) → meets (machine_number x) ≡ false → Spares meets d
       → Spares meets (fitting test x d)
-  spares_fitting test x (Does e) h s = spares_demand (test e) x (Does e) h s
-  spares_fitting test x (Refuses y) h s = s
+  spares_fitting test x (Ok e) h s = spares_demand (test e) x (Ok e) h s
+  spares_fitting test x (Err y) h s = s

@@ -1,4 +1,5 @@
 -- Numbers as text: how long they are, and that they are read back as the numbers. Assumes nothing.
+use Rattle.std.specs.Prelude.{Ok}
 use Prim.Native.Nat.{ℕ, zero, suc, ◌+◌, ◌*◌, ◌-◌, ◌/◌, ◌%◌, ◌^◌, ◌≤◌, ◌<◌}
 use mathlib.Core.Path.{◌≡◌, refl, ap, ◌∙◌}
 use mathlib.Core.Bool.{Bool, true, false, ◌&&◌, ◌||◌}
@@ -13,7 +14,6 @@ use Rattle.rules.specs.Sizes.{max_offset}
 use Rattle.rules.specs.Bytes.{hash, minus_sign, zero_digit, blank, letter, word_byte, allowed}
 use Rattle.rules.specs.Operands.{digit_of, all_digits, numeral, signs, negated, ranged, number_of, float_of}
 use Rattle.rules.specs.Listing.{decimal, signed_text, hex_byte, hex}
-use Rattle.rules.specs.declared.Numeral.TheVariants.{Value}
 use Rattle.rules.proofs.Tests.{by_test, and_left, and_right, below, at_below}
 use Rattle.rules.proofs.Tokens.{plain}
 use Rattle.rules.proofs.Operands.{digit_09, numeral_append, digits_append, signs_other, ranged_least, ranged_most, number_value, pattern_value}
@@ -192,7 +192,7 @@ module _ (b : ℕ) (h : b < 2 ^ 32) where
   back l = omega arith
 
   -- the text of 32 bits is read as those bits: any, and those of −999 to 999
-  pub number_signed : number_of (2 ^ 31) (2 ^ 31 - 1) (signed_text b) ≡ Value b
+  pub number_signed : number_of (2 ^ 31) (2 ^ 31 - 1) (signed_text b) ≡ Ok b
   number_signed =
       by_test (ltb b (2 ^ 31))
       (λ e.
@@ -201,9 +201,9 @@ module _ (b : ℕ) (h : b < 2 ^ 32) where
       (λ e.
       let l = ltb-false b (2 ^ 31) e in
       rw (signed_neg b l)
-      (number_minus (2 ^ 31) (2 ^ 31 - 1) (2 ^ 32 - b) (omega arith) ∙ ranged_least (2 ^ 31) (2 ^ 31 - 1) (2 ^ 32 - b) (omega arith) ∙ ap Value (back l)))
+      (number_minus (2 ^ 31) (2 ^ 31 - 1) (2 ^ 32 - b) (omega arith) ∙ ranged_least (2 ^ 31) (2 ^ 31 - 1) (2 ^ 32 - b) (omega arith) ∙ ap Ok (back l)))
 
-  pub number_offset : (leb b max_offset || leb (2 ^ 32 - max_offset) b) ≡ true → number_of max_offset max_offset (signed_text b) ≡ Value b
+  pub number_offset : (leb b max_offset || leb (2 ^ 32 - max_offset) b) ≡ true → number_of max_offset max_offset (signed_text b) ≡ Ok b
   number_offset k =
       by_test (leb b max_offset)
       (λ e.
@@ -212,7 +212,7 @@ module _ (b : ℕ) (h : b < 2 ^ 32) where
       (λ e.
       let l = leb-true (2 ^ 32 - max_offset) b (rw e at k) in
       rw (signed_neg b (omega arith))
-      (number_minus max_offset max_offset (2 ^ 32 - b) (omega arith) ∙ ranged_least max_offset max_offset (2 ^ 32 - b) (omega arith) ∙ ap Value (back (omega arith))))
+      (number_minus max_offset max_offset (2 ^ 32 - b) (omega arith) ∙ ranged_least max_offset max_offset (2 ^ 32 - b) (omega arith) ∙ ap Ok (back (omega arith))))
 
 -- ---- hex texts are read back
 
@@ -236,6 +236,6 @@ numeral_hex (suc k) n h =
     numeral_append 16 0 (hex k (n / 16)) (hex_byte (n % 16) ∷ []) ∙ hex_last (numeral 16 0 (hex k (n / 16))) n ∙ omega arith
 
 -- "Listings still write bits." (02 e): what begins with `#` is read as bits
-pub float_hex : (v : ℕ) → v < 2 ^ 32 → float_of (hash ∷ hex 8 v) ≡ Value v
+pub float_hex : (v : ℕ) → v < 2 ^ 32 → float_of (hash ∷ hex 8 v) ≡ Ok v
 unfolding float_of
-float_hex v h = pattern_value (hex 8 v) (length_hex 8 v) (digits_hex 8 v) ∙ ap Value (numeral_hex 8 v (omega arith))
+float_hex v h = pattern_value (hex 8 v) (length_hex 8 v) (digits_hex 8 v) ∙ ap Ok (numeral_hex 8 v (omega arith))

@@ -7,7 +7,7 @@ use Rattle.rules.specs.Table.{Program, program}
 use Rattle.rules.specs.State.{Memory, memory}
 use Rattle.rules.specs.Numbers.{number_of_saved, length_of_saved, number_of_load}
 use Rattle.rules.specs.Run.{run}
-use Rattle.rules.specs.SavedState.{Saving, Loading, save, load}
+use Rattle.rules.specs.SavedState.{Saving, Loading, registers_resumed, save, load}
 use Rattle.rules.specs.Examples.{program_of, ran_with, holds}
 use Rattle.rules.specs.KeptNumbers.{Seen, seen_run, backs}
 use Rattle.rules.specs.declared.Registers.{Registers}
@@ -68,7 +68,7 @@ same_state r m registers m' =
     ∷ [])
 
 abbrev leaves : Loading → (number : ℕ) → List ℕ → Memory → Bool
-leaves o number registers m = eqb (number_of_load o.answer.resumed) number && same_state o.answer.registers o.memory registers m
+leaves o number registers m = eqb (number_of_load o.answer) number && same_state (registers_resumed o.answer) o.memory registers m
 
 -- accepted with two history places and two bytes of output: PC, HALT and the used count; cells and output
 abbrev loads : List ℕ → (pc written : ℕ) → (bits tags output : List ℕ) → Bool
@@ -88,7 +88,7 @@ abbrev carries : Program → (h : ℕ) → Seen → Seen
 carries p h s =
     let o = save p s.registers s.memory (replicate state_size 0) in
     let l = load (take (length_of_saved o.answer) o.image) p (lent 16 16 h 2) in
-    record { number = number_of_load l.answer.resumed; registers = l.answer.registers; memory = l.memory }
+    record { number = number_of_load l.answer; registers = registers_resumed l.answer; memory = l.memory }
 
 abbrev runs_on : Program → Seen → Seen
 runs_on p s = seen_run (run p max_limit s.registers s.memory)

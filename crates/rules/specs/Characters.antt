@@ -15,7 +15,7 @@ use Rattle.rules.specs.State.{memory}
 use Rattle.rules.specs.Step.{step}
 use Rattle.rules.specs.Back.{back}
 use Rattle.rules.specs.Run.{run}
-use Rattle.rules.specs.Reset.{reset}
+use Rattle.rules.specs.Reset.{registers_begun, reset}
 use Rattle.rules.specs.Assemble.{assemble}
 use Rattle.rules.specs.Listing.{listing}
 use Rattle.rules.specs.Image.{unpack}
@@ -38,13 +38,13 @@ after h size source back number written output =
 -- a reset of an output of so many bytes
 abbrev resets : (size number : ℕ) → Bool
 resets size number =
-    eqb (number_of_reset (reset (program_of "STOP") (memory (0 ∷ []) (0 ∷ []) [] (replicate size 7))).answer.begun) number
+    eqb (number_of_reset (reset (program_of "STOP") (memory (0 ∷ []) (0 ∷ []) [] (replicate size 7))).answer) number
 
 -- what a reset leaves of an output that holds these bytes
 abbrev start_of : List ℕ → Seen
 start_of output =
     let s = reset (program_of "STOP") (memory (0 ∷ []) (0 ∷ []) [] output) in
-    record { number = number_of_reset s.answer.begun; registers = s.answer.registers; memory = s.memory }
+    record { number = number_of_reset s.answer; registers = registers_begun s.answer; memory = s.memory }
 
 -- ---- the text, the listing, the image, and what is printed
 

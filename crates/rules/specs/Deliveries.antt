@@ -1,6 +1,6 @@
 -- Document 02, letter j: programs with depth lists, worked by hand from its words, as one list, and the one statement that each is judged so; antt computes it.
 -- Assumes nothing.
-use Rattle.std.specs.Prelude.{ℕ, zero, suc, ◌+◌, ◌-◌, ◌≡◌, refl, Bool, true, not, ◌&&◌, List, [], ◌∷◌, replicate, eqb}
+use Rattle.std.specs.Prelude.{ℕ, zero, suc, ◌+◌, ◌-◌, ◌≡◌, refl, Bool, true, not, ◌&&◌, List, [], ◌∷◌, replicate, eqb, Ok, Err}
 use Prim.Native.String.{String}
 use Rattle.rules.specs.Lists.{every}
 use Rattle.rules.specs.Sizes.{max_program, not_reached}
@@ -8,13 +8,12 @@ use Rattle.rules.specs.Table.{Program, program, place_of}
 use Rattle.rules.specs.Numbers.{depth_number}
 use Rattle.rules.specs.DepthList.{depth_after, followers, forbidden, allowed_at, listed, rule, first_failing, check}
 use Rattle.rules.specs.Examples.{program_of, holds}
-use Rattle.rules.specs.declared.Checked.{Checked}
-use Rattle.rules.specs.declared.Checked.TheVariants.{Accepted, NotAccepted}
+use Rattle.rules.specs.Answers.{Checked}
 
 -- the answer is told with that number and place
 abbrev is_told : Checked → (number place : ℕ) → Bool
-is_told Accepted number place = eqb number 0 && eqb place 0
-is_told (NotAccepted e at) number place = eqb number (depth_number e) && eqb place at
+is_told (Ok x) number place = eqb number 0 && eqb place 0
+is_told (Err x) number place = eqb number (depth_number x.refusal) && eqb place x.place
 
 -- a program with N and a list
 abbrev gives : Program → (n : ℕ) → List ℕ → (number place : ℕ) → Bool

@@ -1,6 +1,6 @@
 -- Document 02, letter j, "A depth list with each delivered program": "a list of stack depths beside a program, for a small checker to judge". What an instruction
 -- needs, how it moves SP and where it goes on are read from its row in the one table of instructions. Assumes nothing.
-use Rattle.std.specs.Prelude.{ℕ, zero, suc, Bool, false, not, ◌&&◌, ◌||◌, cond, List, [], ◌∷◌, length, get_or, leb, ltb, eqb}
+use Rattle.std.specs.Prelude.{ℕ, zero, suc, Bool, false, not, ◌&&◌, ◌||◌, cond, List, [], ◌∷◌, length, get_or, leb, ltb, eqb, Ok, Err}
 use Prim.Native.String.{String}
 use Rattle.rules.specs.Lists.{text, same, all, every}
 use Rattle.rules.specs.Sizes.{max_cells, not_reached}
@@ -13,8 +13,7 @@ use Rattle.rules.specs.declared.Registers.{Registers}
 use Rattle.rules.specs.declared.Effect.{Effect}
 use Rattle.rules.specs.declared.DepthRefusal.{DepthRefusal}
 use Rattle.rules.specs.declared.DepthRefusal.TheVariants.{UnsoundTable, OutsideCells, ListLength, ForbiddenInstruction, RuleFailed}
-use Rattle.rules.specs.declared.Checked.{Checked}
-use Rattle.rules.specs.declared.Checked.TheVariants.{Accepted, NotAccepted}
+use Rattle.rules.specs.Answers.{Checked}
 
 -- ---- what the table of instructions tells of one: by its operand, its place, its depth and the bits of an INT on top
 
@@ -77,7 +76,7 @@ first_failing test zero place = place
 first_failing test (suc left) place = cond (test place) (first_failing test left (suc place)) place
 
 abbrev pub accept_if : Bool → DepthRefusal → (place : ℕ) → Checked → Checked
-accept_if test e place d = cond test d (NotAccepted e place)
+accept_if test e place d = cond test d (Err (record { refusal = e; place = place }))
 
 -- every place of the program passes the test; else a refusal "with [its] first place"
 abbrev accept_each : Program → (ℕ → Bool) → DepthRefusal → Checked → Checked
@@ -92,4 +91,4 @@ check p n depths =
     (accept_if (eqb (length depths) p.count) ListLength 0
     (accept_each p (allowed_at p) ForbiddenInstruction
     (accept_if (listed p.count depths 0 0) RuleFailed 0
-    (accept_each p (rule p n depths) RuleFailed Accepted)))))
+    (accept_each p (rule p n depths) RuleFailed (Ok tt))))))

@@ -13,7 +13,7 @@ use Rattle.rules.specs.State.{Memory, memory}
 use Rattle.rules.specs.Numbers.{number_of_dwell, tenths_of_dwell}
 use Rattle.rules.specs.Examples.{program_of, ran_from, holds}
 use Rattle.rules.specs.declared.Cell.{Cell}
-use Rattle.rules.specs.declared.Dwell.{Dwell}
+use Rattle.rules.specs.Answers.{Dwell}
 
 -- what the door board reads, and the number and the tenths that the words give
 pub record DwellRead : Type 0 where

@@ -1,6 +1,6 @@
 -- Document 02, letter f, "A dwell reader for the door board": how long the doors stay open, in tenths of a second, read off "cell 0 of a halted machine".
 -- Assumes nothing.
-use Rattle.std.specs.Prelude.{ℕ, Bool, not, ◌&&◌, ◌||◌, cond, ltb, eqb, ℤ, pos, nat_abs, ◌*ℤ◌}
+use Rattle.std.specs.Prelude.{ℕ, Bool, not, ◌&&◌, ◌||◌, cond, ltb, eqb, ℤ, pos, nat_abs, ◌*ℤ◌, Ok, Err}
 use Rattle.std.specs.Int.Signed.{lt_z, shr_z}
 use Rattle.rules.specs.Tags.{INT, FLOAT, has}
 use Rattle.rules.specs.Words.{signed}
@@ -10,8 +10,7 @@ use Rattle.rules.specs.Cells.{cell_at}
 use Rattle.rules.specs.State.{Memory, sound}
 use Rattle.rules.specs.declared.Cell.{Cell}
 use Rattle.rules.specs.declared.Registers.{Registers}
-use Rattle.rules.specs.declared.Dwell.{Dwell}
-use Rattle.rules.specs.declared.Dwell.TheVariants.{Tenths, Unread}
+use Rattle.rules.specs.Answers.{Dwell}
 use Rattle.rules.specs.declared.DwellRefusal.{DwellRefusal}
 use Rattle.rules.specs.declared.DwellRefusal.TheVariants.{StateBroken, NotHalted, StackEmpty, OtherTag, NotANumber}
 
@@ -45,14 +44,14 @@ tenths_of c = cond (has INT c) (held (signed c.bits)) (held_seconds c.bits)
 -- ---- the call, which writes nothing
 
 abbrev pub read_if : Bool → DwellRefusal → Dwell → Dwell
-read_if test e d = cond test d (Unread e)
+read_if test e d = cond test d (Err e)
 
 -- "62 tag neither INT nor FLOAT, 63 NaN"
 abbrev pub read_cell : Cell → Dwell
 read_cell c =
     read_if (has INT c || has FLOAT c) OtherTag
     (read_if (not (has FLOAT c && stands_for_nan c.bits)) NotANumber
-    (Tenths (tenths_of c)))
+    (Ok (tenths_of c)))
 
 -- "10 as for step, then 60 not halted, 61 SP is 0", and then of cell 0
 unfoldable pub dwell : Program → Registers → Memory → Dwell

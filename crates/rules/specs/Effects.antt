@@ -1,12 +1,10 @@
 -- Document 01, "Instructions" and "Cells written", and document 02, letter h: what an accepted step does, as an `Effect`. Assumes nothing.
-use Rattle.std.specs.Prelude.{ℕ, ◌+◌, ◌-◌, ℤ, pos, negsuc}
+use Rattle.std.specs.Prelude.{ℕ, ◌+◌, ◌-◌, ℤ, pos, negsuc, Option, Some, None}
 use Rattle.rules.specs.Tags.{int, ma, pa}
 use Rattle.rules.specs.declared.Cell.{Cell}
 use Rattle.rules.specs.declared.MemoryAddress.{MemoryAddress}
 use Rattle.rules.specs.declared.ProgramAddress.{ProgramAddress}
 use Rattle.rules.specs.declared.Registers.{Registers}
-use Rattle.rules.specs.declared.Shown.{Shown}
-use Rattle.rules.specs.declared.Shown.TheVariants.{Nothing, Byte}
 use Rattle.rules.specs.declared.Effect.{Effect}
 
 -- ---- addresses: "a memory address and a program address are never taken for each other"
@@ -29,25 +27,25 @@ pub record Written : Type 0 where
   pub count : ℕ
   pub first : Cell
   pub second : Cell
-  pub shows : Shown
+  pub shows : Option ℕ
 
 abbrev pub nothing : Written
-nothing = record { at = 0; count = 0; first = int 0; second = int 0; shows = Nothing }
+nothing = record { at = 0; count = 0; first = int 0; second = int 0; shows = None }
 
 abbrev pub cell : ℕ → Cell → Written
-cell a c = record { at = a; count = 1; first = c; second = int 0; shows = Nothing }
+cell a c = record { at = a; count = 1; first = c; second = int 0; shows = None }
 
 -- side by side
 abbrev pub pair : ℕ → Cell → Cell → Written
-pair a c d = record { at = a; count = 2; first = c; second = d; shows = Nothing }
+pair a c d = record { at = a; count = 2; first = c; second = d; shows = None }
 
 -- "INT 0 in each cell from .. to just below"
 abbrev pub zeros : ℕ → ℕ → Written
-zeros from to = record { at = from; count = to - from; first = int 0; second = int 0; shows = Nothing }
+zeros from to = record { at = from; count = to - from; first = int 0; second = int 0; shows = None }
 
 -- "WRITECH writes no cell" (02 h), but a byte
 abbrev pub byte : ℕ → Written
-byte b = record { at = 0; count = 0; first = int 0; second = int 0; shows = Byte b }
+byte b = record { at = 0; count = 0; first = int 0; second = int 0; shows = Some b }
 
 -- the registers after, and what is written: every effect is made here
 abbrev pub effect : (pc sp fbr halt : ℕ) → Written → Effect

@@ -14,7 +14,7 @@ use Rattle.rules.specs.Bytes.{CR, LF}
 use Rattle.rules.specs.Numbers.{number_of_assembled, position_of_assembled}
 use Rattle.rules.specs.Assemble.{assemble}
 use Rattle.rules.specs.declared.Position.{Position}
-use Rattle.rules.specs.declared.Assembled.{Assembled}
+use Rattle.rules.specs.Answers.{Assembled}
 
 -- a source, the number that refuses it, and where
 pub record Refusal : Type 0 where

@@ -1,6 +1,6 @@
 -- Document 02, letter i: "Add a call that forgets the k oldest kept steps, moves the rest down, and zeroes the room gained, which later steps use." Assumes
 -- nothing.
-use Rattle.std.specs.Prelude.{ℕ, ◌-◌, cond, List, ◌++◌, drop, replicate, leb}
+use Rattle.std.specs.Prelude.{ℕ, ◌-◌, cond, List, ◌++◌, drop, replicate, leb, Ok, Err}
 use Rattle.rules.specs.Lists.{every, part}
 use Rattle.rules.specs.Table.{Program}
 use Rattle.rules.specs.State.{Memory, registers_holding}
@@ -8,8 +8,7 @@ use Rattle.rules.specs.Records.{records_in_use, record_tests, places_taken}
 use Rattle.rules.specs.declared.Registers.{Registers}
 use Rattle.rules.specs.declared.ForgetRefusal.{ForgetRefusal}
 use Rattle.rules.specs.declared.ForgetRefusal.TheVariants.{RecordsBroken, TooManySteps}
-use Rattle.rules.specs.declared.Forgot.{Forgot}
-use Rattle.rules.specs.declared.Forgot.TheVariants.{Forgotten, NotForgotten}
+use Rattle.rules.specs.Answers.{Forgot}
 
 -- an answer, and the memory that it leaves
 pub record Forgets : Type 0 where
@@ -28,13 +27,13 @@ moved_down free used history = part free (used - free) history ++ (replicate fre
 abbrev pub forgotten : (free k : ℕ) → Registers → Memory → Forgets
 forgotten free k r m =
     record {
-      answer = Forgotten (registers_holding r.h (r.used - free) (r.kept - k) r);
+      answer = Ok (registers_holding r.h (r.used - free) (r.kept - k) r);
       memory = record { cells = m.cells; history = moved_down free r.used m.history; output = m.output };
     }
 
 -- "a refusal changes nothing"
 abbrev pub not_forgotten : Memory → ForgetRefusal → Forgets
-not_forgotten m e = record { answer = NotForgotten e; memory = m }
+not_forgotten m e = record { answer = Err e; memory = m }
 
 -- "10 first ..; then 14 when k is above the kept number"
 unfoldable pub forget : Program → ℕ → Registers → Memory → Forgets

@@ -1,10 +1,10 @@
 -- Document 01, "Text, table, image", and document 02, letter e: number operands as text. Assumes nothing.
-use Rattle.std.specs.Prelude.{ℕ, ◌+◌, ◌*◌, ◌-◌, ◌^◌, ◌%◌, Bool, true, false, cond, ◌&&◌, List, [], ◌∷◌, eqb, leb, ltb, length, drop, get_or}
+use Rattle.std.specs.Prelude.{ℕ, ◌+◌, ◌*◌, ◌-◌, ◌^◌, ◌%◌, Bool, true, false, cond, ◌&&◌, List, [], ◌∷◌, eqb, leb, ltb, length, drop, get_or, Ok, Err}
 use Prim.Native.Char.{code}
 use Rattle.rules.specs.Bytes.{hash, minus_sign, point}
 use Rattle.rules.specs.Floats.{nearest_f}
-use Rattle.rules.specs.declared.Numeral.{Numeral}
-use Rattle.rules.specs.declared.Numeral.TheVariants.{Value, WrongForm, OutOfRange}
+use Rattle.rules.specs.Answers.{Numeral}
+use Rattle.rules.specs.declared.NumeralFault.TheVariants.{WrongForm, OutOfRange}
 
 -- what a byte counts for as a digit, "of either case": 0 to 9, A to F and a to f; 16 where it is none
 unfoldable pub digit_of : ℕ → ℕ
@@ -39,22 +39,22 @@ negated n = (2 ^ 32 - n) % 2 ^ 32
 
 -- the number n with a minus or without: from −least to most
 unfoldable pub ranged : ℕ → ℕ → Bool → ℕ → Numeral
-ranged least most true n = cond (leb n least) (Value (negated n)) OutOfRange
-ranged least most false n = cond (leb n most) (Value n) OutOfRange
+ranged least most true n = cond (leb n least) (Ok (negated n)) (Err OutOfRange)
+ranged least most false n = cond (leb n most) (Ok n) (Err OutOfRange)
 
 -- "Numbers: optional `-`, digits; more than 10 digits is 25."
 unfoldable pub number_of : ℕ → ℕ → List ℕ → Numeral
 number_of least most t =
     let ds = drop (signs t) t in
     let n = ranged least most (eqb (signs t) 1) (numeral 10 0 ds) in
-    cond (is_numeral 10 ds) (cond (leb (length ds) 10) n OutOfRange) WrongForm
+    cond (is_numeral 10 ds) (cond (leb (length ds) 10) n (Err OutOfRange)) (Err WrongForm)
 
 -- "`#` and eight hex digits of either case"
 unfoldable pub pattern_of : List ℕ → Numeral
-pattern_of [] = WrongForm
+pattern_of [] = Err WrongForm
 pattern_of (b ∷ ds) =
-    let n = Value (numeral 16 0 ds) in
-    cond (eqb (length ds) 8 && eqb b hash && all_digits 16 ds) n WrongForm
+    let n = Ok (numeral 16 0 ds) in
+    cond (eqb (length ds) 8 && eqb b hash && all_digits 16 ds) n (Err WrongForm)
 
 -- ---- decimals (02 e)
 
@@ -89,8 +89,8 @@ digits_in ds = length (before_point ds) + length (after_point ds)
 unfoldable pub decimal_of : List ℕ → Numeral
 decimal_of t =
     let ds = drop (signs t) t in
-    let v = Value (nearest_decimal (eqb (signs t) 1) ds) in
-    cond (is_decimal ds) (cond (leb (digits_in ds) 9) v OutOfRange) WrongForm
+    let v = Ok (nearest_decimal (eqb (signs t) 1) ds) in
+    cond (is_decimal ds) (cond (leb (digits_in ds) 9) v (Err OutOfRange)) (Err WrongForm)
 
 -- "PUSHIMMF shall also take a decimal"
 unfoldable pub float_of : List ℕ → Numeral

@@ -13,7 +13,7 @@ use Rattle.rules.specs.Why.{why}
 use Rattle.rules.specs.Examples.{program_of, holds}
 use Rattle.rules.specs.KeptNumbers.{Seen, jumped, wrote, backs}
 use Rattle.rules.specs.Forgets.{ran_before, then_forgets}
-use Rattle.rules.specs.declared.Why.{Why}
+use Rattle.rules.specs.Answers.{Why}
 
 -- ---- a question, and what is told: the number; found, steps back, PC, the table's place, old tag and old bits
 

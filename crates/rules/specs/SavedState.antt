@@ -1,5 +1,5 @@
 -- Document 02, letter k: "Add a saved state, packed as the program image is", and its load. Assumes nothing.
-use Rattle.std.specs.Prelude.{ℕ, zero, suc, ◌+◌, ◌-◌, ◌*◌, Bool, cond, List, [], ◌∷◌, ◌++◌, length, take, drop, replicate, leb, eqb}
+use Rattle.std.specs.Prelude.{ℕ, zero, suc, ◌+◌, ◌-◌, ◌*◌, Bool, cond, List, [], ◌∷◌, ◌++◌, length, take, drop, replicate, leb, eqb, Ok, Err}
 use Rattle.rules.specs.Lists.{every}
 use Rattle.rules.specs.Sizes.{max_history, max_output, state_size}
 use Rattle.rules.specs.Outputs.{blanked}
@@ -13,11 +13,8 @@ use Rattle.rules.specs.declared.SaveRefusal.{SaveRefusal}
 use Rattle.rules.specs.declared.SaveRefusal.TheVariants.{UnsoundState, ImageLength}
 use Rattle.rules.specs.declared.LoadRefusal.{LoadRefusal}
 use Rattle.rules.specs.declared.LoadRefusal.TheVariants.{OutsideRanges, StateEndsEarly, StatePadding, OtherSizes}
-use Rattle.rules.specs.declared.Saved.{Saved}
-use Rattle.rules.specs.declared.Saved.TheVariants.{Bytes, NotSaved}
-use Rattle.rules.specs.declared.Resumed.{Resumed}
-use Rattle.rules.specs.declared.Resumed.TheVariants.{Going, NotGoing}
-use Rattle.rules.specs.declared.Load.{Load}
+use Rattle.rules.specs.Answers.{Saved}
+use Rattle.rules.specs.Answers.{Resumed, Entry}
 
 -- ---- what is in the image
 
@@ -58,13 +55,13 @@ pub record Saving : Type 0 where
 
 -- "Refused writers leave an output of wrong length untouched, zero one of right length"
 abbrev pub not_saved : SaveRefusal → List ℕ → Saving
-not_saved e image = record { answer = NotSaved e; image = blanked state_size image }
+not_saved e image = record { answer = Err e; image = blanked state_size image }
 
 -- "zeros to a byte; the lent output is 4,638 bytes, rest zero, length told"; "Refusals for save: 31, then 10."
 unfoldable pub save : Program → Registers → Memory → List ℕ → Saving
 save p r m image =
     let bits = state_bits r m.cells m.output in
-    let packed : Saving = record { answer = Bytes (bytes_for (length bits)); image = packed_to state_size bits } in
+    let packed : Saving = record { answer = Ok (bytes_for (length bits)); image = packed_to state_size bits } in
     cond (eqb (length image) state_size) (cond (sound p r m) packed (not_saved UnsoundState image)) (not_saved ImageLength image)
 
 -- ---- the load
@@ -111,12 +108,16 @@ bytes_in r bits = bytes_of r.written (drop (output_from r.n) bits)
 
 -- an answer, and the memory that it leaves
 pub record Loading : Type 0 where
-  pub answer : Load
+  pub answer : Resumed
   pub memory : Memory
 
--- "A refused load does as a refused reset": it returns zero registers, and changes nothing
+-- "A refused load does as a refused reset": it changes nothing, and returns zero registers
 abbrev pub not_loaded : Memory → LoadRefusal → Loading
-not_loaded m e = record { answer = record { resumed = NotGoing e; registers = cleared 0 0 }; memory = m }
+not_loaded m e = record { answer = Err e; memory = m }
+
+abbrev pub registers_resumed : Resumed → Registers
+registers_resumed (Ok r) = r
+registers_resumed (Err e) = cleared 0 0
 
 -- "It zeroes the history and the output's rest"
 abbrev pub memory_in : Registers → (bits : List ℕ) → Memory → Memory
@@ -128,24 +129,24 @@ memory_in r bits m =
     }
 
 abbrev pub loaded : Registers → (bits : List ℕ) → Memory → Loading
-loaded r bits m = record { answer = record { resumed = Going; registers = r }; memory = memory_in r bits m }
+loaded r bits m = record { answer = Ok r; memory = memory_in r bits m }
 
 -- not "67 N not that of the lent cells and tags, or a lent history or output outside its range", by the lengths of the lent slices
 abbrev pub lent_sizes : (n : ℕ) → (bits tags history output : ℕ) → List Bool
 lent_sizes n bits tags history output = eqb bits n ∷ eqb tags n ∷ leb history max_history ∷ leb output max_output ∷ []
 
 -- "41 ends early", before all that it announces, which has the head before it; then "67 .."
-unfoldable pub entry : (image : List ℕ) → (bits tags history output : ℕ) → Resumed
+unfoldable pub entry : (image : List ℕ) → (bits tags history output : ℕ) → Entry
 entry image bits tags history output =
     let l = bits_of image in
     cond (leb (announced (told_cells l) (told_bytes l)) (length l))
-    (cond (every (lent_sizes (told_cells l) bits tags history output)) Going (NotGoing OtherSizes))
-    (NotGoing StateEndsEarly)
+    (cond (every (lent_sizes (told_cells l) bits tags history output)) (Ok tt) (Err OtherSizes))
+    (Err StateEndsEarly)
 
 -- what comes after, where neither is given
-abbrev pub entered : Resumed → Memory → Loading → Loading
-entered Going m after = after
-entered (NotGoing e) m after = not_loaded m e
+abbrev pub entered : Entry → Memory → Loading → Loading
+entered (Ok x) m after = after
+entered (Err e) m after = not_loaded m e
 
 -- not "10 for the ranges of step, an output count above the lent output among them": those of the registers and cells that the image holds, with the lent history
 -- and output, whose contents a step does not judge either

@@ -1,6 +1,6 @@
 -- Document 02, letter m: "Add a translator from one formula to a program ending in STOP." The code of a tree, its cost and its depth, and the call. Assumes
 -- nothing.
-use Rattle.std.specs.Prelude.{ℕ, ◌+◌, ◌-◌, ◌^◌, max, cond, List, [], ◌∷◌, ◌++◌, eqb, leb, length, replicate}
+use Rattle.std.specs.Prelude.{ℕ, ◌+◌, ◌-◌, ◌^◌, max, cond, List, [], ◌∷◌, ◌++◌, eqb, leb, length, replicate, Ok, Err}
 use Rattle.rules.specs.Sizes.{max_source, max_program}
 use Rattle.rules.specs.Outputs.{blanked}
 use Rattle.rules.specs.Table.{Program, program, place_of}
@@ -9,8 +9,7 @@ use Rattle.rules.specs.declared.Operator.{Operator}
 use Rattle.rules.specs.declared.Operator.TheVariants.{Add, Subtract, Multiply, Divide}
 use Rattle.rules.specs.declared.FormulaRefusal.{FormulaRefusal}
 use Rattle.rules.specs.declared.FormulaRefusal.TheVariants.{TableLength, FormulaTooLong}
-use Rattle.rules.specs.declared.Translated.{Translated}
-use Rattle.rules.specs.declared.Translated.TheVariants.{Sized, NotTranslated}
+use Rattle.rules.specs.Answers.{Formulated}
 
 -- ---- the instructions of a formula, as places of the table; `Translations` holds them to the names of the instructions
 
@@ -75,15 +74,15 @@ program_for t = program (table_for t) (length (instructions_for t))
 
 -- the answer, and the table that it leaves
 pub record Translation : Type 0 where
-  pub answer : Translated
+  pub answer : Formulated
   pub table : List ℕ
 
 -- "a refusal tells zeros and zeroes a table of right length"
 abbrev pub no_translation : List ℕ → FormulaRefusal → Translation
-no_translation table e = record { answer = NotTranslated e; table = blanked max_program table }
+no_translation table e = record { answer = Err e; table = blanked max_program table }
 
 abbrev pub translation : List ℕ → Parsed → Translation
-translation table (formula t) = record { answer = Sized (length (instructions_for t)) (depth t); table = table_for t }
+translation table (formula t) = record { answer = Ok (record { length = length (instructions_for t); depth = depth t }); table = table_for t }
 translation table (unfit e) = no_translation table e
 
 -- "31 comes first and 21 next"

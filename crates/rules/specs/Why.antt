@@ -1,6 +1,6 @@
 -- Document 02, letter l: "Why does this cell hold that? Given a cell, the tool names the newest kept step which wrote it". It "changes nothing": its answer is all
 -- there is. Assumes nothing.
-use Rattle.std.specs.Prelude.{ℕ, ◌+◌, cond, List, [], ◌∷◌, get_or, ltb, eqb}
+use Rattle.std.specs.Prelude.{ℕ, ◌+◌, cond, List, [], ◌∷◌, get_or, ltb, eqb, Some, None, Ok, Err}
 use Rattle.rules.specs.Lists.{every}
 use Rattle.rules.specs.Places.{cell_address, cell_tag, cell_bits, step_pc}
 use Rattle.rules.specs.Table.{Program}
@@ -8,8 +8,7 @@ use Rattle.rules.specs.State.{Memory}
 use Rattle.rules.specs.Records.{HistoryRecord, records_in_use, record_tests}
 use Rattle.rules.specs.declared.Registers.{Registers}
 use Rattle.rules.specs.declared.NamedStep.{NamedStep}
-use Rattle.rules.specs.declared.Why.{Why}
-use Rattle.rules.specs.declared.Why.TheVariants.{Named, NoKeptStep, NotNamed}
+use Rattle.rules.specs.Answers.{Why}
 use Rattle.rules.specs.declared.WhyRefusal.TheVariants.{NoSuchCell, HistoryBroken}
 
 -- "how many steps back (newest 1), its PC, the instruction, and what the cell held before with its tag": of a step place, and the place of the cell in its record
@@ -31,12 +30,12 @@ told_by cell (q ∷ qs) told older = told_by cell qs told (cond (eqb (cell_addre
 -- "names the newest kept step which wrote it": of the records from the newest on, the first of which is that many steps back. "Otherwise it says that no kept step
 -- wrote the cell."
 abbrev pub newest : (table : List ℕ) → (cell back : ℕ) → List HistoryRecord → Why
-newest table cell back [] = NoKeptStep
-newest table cell back (w ∷ ws) = told_by cell w.cells (λ q. Named (named_step table back w.place q)) (newest table cell (back + 1) ws)
+newest table cell back [] = Ok None
+newest table cell back (w ∷ ws) = told_by cell w.cells (λ q. Ok (Some (named_step table back w.place q))) (newest table cell (back + 1) ws)
 
 -- "10 as in i), then 6 for a cell not below N"
 unfoldable pub why : Program → (cell : ℕ) → Registers → Memory → Why
 why p cell r m =
     cond (every (record_tests p r m))
-    (cond (ltb cell r.n) (newest p.places cell 1 (records_in_use r m)) (NotNamed NoSuchCell))
-    (NotNamed HistoryBroken)
+    (cond (ltb cell r.n) (newest p.places cell 1 (records_in_use r m)) (Err NoSuchCell))
+    (Err HistoryBroken)

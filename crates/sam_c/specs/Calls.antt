@@ -1,6 +1,6 @@
 -- The calls for C: the number that each gives, what it tells, and what it leaves in every slice lent to be written, by the rules' definitions alone.
 -- Assumes nothing.
-use Rattle.std.specs.Prelude.{ℕ, Bool, true, false, cond, List, [], ◌∷◌, length, get_or, leb, eqb}
+use Rattle.std.specs.Prelude.{ℕ, Bool, true, false, cond, List, [], ◌∷◌, length, get_or, leb, eqb, Ok, Err}
 use Rattle.rules.specs.Lists.{every}
 use Rattle.rules.specs.Sizes.{max_program, max_limit, listing_size, image_size, state_size}
 use Rattle.rules.specs.Table.{Program}
@@ -10,7 +10,7 @@ use Rattle.rules.specs.Assemble.{Assembly, assemble}
 use Rattle.rules.specs.Listing.{Written, list}
 use Rattle.rules.specs.Image.{Filed, pack, unpack}
 use Rattle.rules.specs.Translate.{Translation, translate}
-use Rattle.rules.specs.Reset.{Started, size_tests, reset}
+use Rattle.rules.specs.Reset.{Started, registers_begun, size_tests, reset}
 use Rattle.rules.specs.Step.{Stepped, step}
 use Rattle.rules.specs.Back.{back}
 use Rattle.rules.specs.Run.{Ran, run}
@@ -18,18 +18,14 @@ use Rattle.rules.specs.Forget.{Forgets, forget}
 use Rattle.rules.specs.Dwell.{dwell}
 use Rattle.rules.specs.Why.{why}
 use Rattle.rules.specs.DepthList.{check}
-use Rattle.rules.specs.SavedState.{Saving, save, entry, Loading, load}
+use Rattle.rules.specs.SavedState.{Saving, save, entry, Loading, registers_resumed, load}
 use Rattle.rules.specs.Numbers.{machine_number, text_number, number_of_assembled, length_of_assembled, position_of_assembled, number_of_listed, length_of_listed, number_of_packed, length_of_packed, number_of_reset, number_of_step, registers_after, number_of_ending, number_of_dwell, tenths_of_dwell, number_of_forgot, registers_forgot, number_of_checked, place_of_checked, number_of_saved, length_of_saved, load_number, number_of_load, number_of_why, found_of_why, no_step, step_of_why, number_of_translated, length_of_translated, depth_of_translated}
 use Rattle.rules.specs.declared.Position.{Position}
 use Rattle.rules.specs.declared.Registers.{Registers}
-use Rattle.rules.specs.declared.Dwell.{Dwell}
-use Rattle.rules.specs.declared.Checked.{Checked}
+use Rattle.rules.specs.Answers.{Dwell, Checked, Entry, Why}
 use Rattle.rules.specs.declared.NamedStep.{NamedStep}
-use Rattle.rules.specs.declared.Why.{Why}
 use Rattle.rules.specs.declared.MachineRefusal.TheVariants.{Broken, OutsideSizes}
 use Rattle.rules.specs.declared.TextRefusal.TheVariants.{WrongLength}
-use Rattle.rules.specs.declared.Resumed.{Resumed}
-use Rattle.rules.specs.declared.Resumed.TheVariants.{Going, NotGoing}
 
 -- ---- what a call gives and leaves
 
@@ -91,9 +87,9 @@ unfoldable pub not_registers_saved : (image : ℕ) → ℕ
 not_registers_saved image = cond (eqb image state_size) broken not_its_length
 
 -- "For load, in this order: 41 ..; 67 ..; 10 .." (02 k): and of a load that is refused with one of the first two, or not
-abbrev pub not_registers_loaded : Resumed → ℕ
-not_registers_loaded Going = broken
-not_registers_loaded (NotGoing e) = load_number e
+abbrev pub not_registers_loaded : Entry → ℕ
+not_registers_loaded (Ok x) = broken
+not_registers_loaded (Err e) = load_number e
 
 -- how many registers there are
 abbrev pub register_count : ℕ
@@ -159,7 +155,7 @@ translate_call formula table told = of_length 2 told (translate_filled (translat
 
 -- "A refused reset returns zero registers.", where there are nine
 abbrev pub reset_moved : Started → Moved
-reset_moved s = moved (number_of_reset s.answer.begun) (list_of s.answer.registers) s.memory
+reset_moved s = moved (number_of_reset s.answer) (list_of (registers_begun s.answer)) s.memory
 
 abbrev pub reset_call : Program → List ℕ → Memory → Moved
 reset_call p registers m =
@@ -199,7 +195,7 @@ run_call p limit registers m told =
 
 -- "A refused load does as a refused reset." (02 k)
 abbrev pub load_moved : Loading → Moved
-load_moved o = moved (number_of_load o.answer.resumed) (list_of o.answer.registers) o.memory
+load_moved o = moved (number_of_load o.answer) (list_of (registers_resumed o.answer)) o.memory
 
 abbrev pub load_call : (image : List ℕ) → Program → List ℕ → Memory → Moved
 load_call image p registers m =

@@ -5,6 +5,8 @@ ghost use Rattle.rules.specs.State.{memory};
 ghost use Rattle.sam_c.specs.Calls.{answered, why_call};
 
 use crate::{registers, told};
+use numbers::Numbered;
+use program::Program;
 use rules::NO_STEP;
 
 // Tells the newest kept step that wrote a cell.
@@ -25,22 +27,24 @@ pub extern "C" fn sam_why(
     if told.len() != 6 {
         return told::NOT_ITS_LENGTH;
     }
-    if registers.len() != registers::COUNT {
-        told::tell_named(told, 0, NO_STEP);
+    let Some(r) = registers::read(registers) else {
+        told.fill(0);
         return registers::BROKEN;
-    }
-    let r = registers::read(registers);
-    let answer = why::why(
+    };
+    let p = Program {
         table,
-        length as usize,
-        cell as usize,
-        r,
-        bits,
-        tags,
-        history,
-        output,
-    );
-    let found = numbers::why_found(answer);
-    told::tell_named(told, found, numbers::why_step(answer));
-    numbers::why_number(answer)
+        length: length as usize,
+    };
+    let answer = why::why(p, cell as usize, r, bits, tags, history, output);
+    let named = answer.ok().flatten();
+    let step = named.unwrap_or(NO_STEP);
+    told.copy_from_slice(&[
+        named.is_some() as u64,
+        step.back as u64,
+        step.pc as u64,
+        step.instruction,
+        step.before.tag as u64,
+        step.before.bits as u64,
+    ]);
+    answer.number()
 }

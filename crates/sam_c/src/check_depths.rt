@@ -4,6 +4,8 @@ ghost use Rattle.rules.specs.Table.{program};
 ghost use Rattle.sam_c.specs.Calls.{answered, depths_call};
 
 use crate::told;
+use numbers::Numbered;
+use program::Program;
 
 // Judges a list of stack depths beside a program, for a machine of n cells, and tells the place of a refusal.
 #[unsafe(no_mangle)]
@@ -19,7 +21,11 @@ pub extern "C" fn sam_depths(
     if told.len() != 1 {
         return told::NOT_ITS_LENGTH;
     }
-    let answer = depths::check(table, length as usize, n as usize, depths);
-    told::tell(told, numbers::checked_place(answer));
-    numbers::checked_number(answer)
+    let p = Program {
+        table,
+        length: length as usize,
+    };
+    let answer = depths::check(p, n as usize, depths);
+    told.copy_from_slice(&[answer.err().map_or(0, |fault| fault.place) as u64]);
+    answer.number()
 }

@@ -5,8 +5,11 @@ ghost use Rattle.rules.specs.State.{memory};
 ghost use Rattle.sam_c.specs.Calls.{moved, forget_call};
 
 use crate::registers;
+use numbers::Numbered;
+use program::Program;
 
 // Forgets the k oldest kept steps.
+#[tactic(auto, unfolding(crate::specs::Calls::of_length, rules::specs::Forget::forget))]
 #[unsafe(no_mangle)]
 pub extern "C" fn sam_forget(
     table: &[u64],
@@ -20,20 +23,14 @@ pub extern "C" fn sam_forget(
 ) -> u32
     ensures { moved result registers.new (memory bits.now tags.now history.new output.now) ≡ forget_call (program table.now length) k registers.old (memory bits.now tags.now history.old output.now) }
 {
-    if registers.len() != registers::COUNT {
+    let Some(r) = registers::read(registers) else {
         return registers::BROKEN;
-    }
-    let r = registers::read(registers);
-    let answer = forget::forget(
+    };
+    let p = Program {
         table,
-        length as usize,
-        k as usize,
-        r,
-        bits,
-        tags,
-        history,
-        output,
-    );
-    registers::write(registers, registers::after_forget(r, answer));
-    numbers::forgot_number(answer)
+        length: length as usize,
+    };
+    let answer = forget::forget(p, k as usize, r, bits, tags, history, output);
+    registers::write(registers, answer.unwrap_or(r));
+    answer.number()
 }

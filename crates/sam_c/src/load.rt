@@ -5,6 +5,9 @@ ghost use Rattle.rules.specs.State.{memory};
 ghost use Rattle.sam_c.specs.Calls.{moved, load_call};
 
 use crate::registers;
+use numbers::Numbered;
+use program::Program;
+use state::Lengths;
 
 // Loads a saved state into cells, tags, history and output, and sets the registers; refused, sets the registers to 0.
 #[unsafe(no_mangle)]
@@ -23,15 +26,14 @@ pub extern "C" fn sam_load(
     if registers.len() != registers::COUNT {
         return registers::refused_load(saved::entry(
             image,
-            bits.len(),
-            tags.len(),
-            history.len(),
-            output.len(),
+            Lengths::of(bits, tags, history, output),
         ));
     }
-    let answer = saved::load(image, table, length as usize, bits, tags, history, output);
-    let r = answer.registers;
-    let resumed = answer.resumed;
-    registers::write(registers, r);
-    numbers::resumed_number(resumed)
+    let p = Program {
+        table,
+        length: length as usize,
+    };
+    let answer = saved::load(image, p, bits, tags, history, output);
+    registers::write(registers, answer.unwrap_or(state::zero_registers(0, 0)));
+    answer.number()
 }

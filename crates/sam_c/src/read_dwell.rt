@@ -5,6 +5,8 @@ ghost use Rattle.rules.specs.State.{memory};
 ghost use Rattle.sam_c.specs.Calls.{answered, dwell_call};
 
 use crate::{registers, told};
+use numbers::Numbered;
+use program::Program;
 
 // Reads the dwell off cell 0 of a halted machine, and tells its tenths.
 #[unsafe(no_mangle)]
@@ -23,12 +25,15 @@ pub extern "C" fn sam_dwell(
     if told.len() != 1 {
         return told::NOT_ITS_LENGTH;
     }
-    if registers.len() != registers::COUNT {
-        told::tell(told, 0);
+    let Some(r) = registers::read(registers) else {
+        told.fill(0);
         return registers::BROKEN;
-    }
-    let r = registers::read(registers);
-    let answer = dwell::dwell(table, length as usize, r, bits, tags, history, output);
-    told::tell(told, numbers::dwell_tenths(answer));
-    numbers::dwell_number(answer)
+    };
+    let p = Program {
+        table,
+        length: length as usize,
+    };
+    let answer = dwell::dwell(p, r, bits, tags, history, output);
+    told.copy_from_slice(&[answer.unwrap_or(0) as u64]);
+    answer.number()
 }

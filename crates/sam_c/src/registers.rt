@@ -1,28 +1,25 @@
 // The nine registers in a lent slice, in the order N, H, PC, SP, FBR, HALT, U, kept, written.
 ghost use Rattle.std.specs.Prelude.{◌≡◌, length};
-ghost use Rattle.rules.specs.Numbers.{registers_after, registers_forgot};
-ghost use Rattle.sam_c.specs.Calls.{not_registers, not_registers_saved, not_registers_loaded, register_count, list_of, registers_of};
+ghost use Rattle.sam_c.specs.Calls.{of_length, not_registers, not_registers_saved, not_registers_loaded, register_count, list_of, registers_of};
 
 use crate::told;
-use rules::{Forgot, Registers, Resumed, Step, sizes};
+use numbers::Numbered;
+use rules::{LoadRefusal, MachineRefusal, Registers, sizes};
 
 // How many there are.
 pub(crate) const COUNT: usize = 9;
 
 // "broken state or table", where a call is lent registers of another length.
-pub(crate) const BROKEN: u32 = 10;
+pub(crate) const BROKEN: u32 = MachineRefusal::Broken as u32;
 
 // "at reset N or H outside Sizes, ..; at a run a limit above 1,000,000", which comes before it.
-const OUTSIDE_SIZES: u32 = 11;
+const OUTSIDE_SIZES: u32 = MachineRefusal::OutsideSizes as u32;
 
 // The number of a reset or a run that is lent registers of another length, by whether all else is within its sizes.
 pub(crate) fn refused(sized: bool) -> u32
     ensures { result ≡ not_registers sized }
 {
-    if sized {
-        return BROKEN;
-    }
-    OUTSIDE_SIZES
+    if sized { BROKEN } else { OUTSIDE_SIZES }
 }
 
 // The number of a save that is lent registers of another length, and an image of so many bytes.
@@ -30,37 +27,40 @@ pub(crate) fn refused_save(image: usize) -> u32
     ensures { result ≡ not_registers_saved image }
 {
     if image == sizes::STATE_SIZE {
-        return BROKEN;
+        BROKEN
+    } else {
+        told::NOT_ITS_LENGTH
     }
-    told::NOT_ITS_LENGTH
 }
 
-// The number of a load that is lent registers of another length, by whether all else that comes before 10 is as it should be.
-pub(crate) fn refused_load(entry: Resumed) -> u32
+// The number of a load that is lent registers of another length, by what it is refused with before 10, if anything.
+pub(crate) fn refused_load(entry: Result<(), LoadRefusal>) -> u32
     ensures { result ≡ not_registers_loaded entry }
 {
     match entry {
-        Resumed::Going => BROKEN,
-        Resumed::NotGoing(e) => numbers::load_number(e),
+        Ok(()) => BROKEN,
+        Err(refusal) => refusal.number(),
     }
 }
 
-// Reads them.
-pub(crate) fn read(registers: &[u64]) -> Registers
-    requires { length registers.now ≡ register_count }
-    ensures { result ≡ registers_of registers.now }
+// Reads them, where the slice has so many numbers.
+pub(crate) fn read(registers: &[u64]) -> Option<Registers>
+    ensures { result ≡ of_length register_count registers.now (Some (registers_of registers.now)) None }
 {
-    Registers {
-        n: registers[0] as usize,
-        h: registers[1] as usize,
-        pc: registers[2] as usize,
-        sp: registers[3] as usize,
-        fbr: registers[4] as usize,
-        halt: registers[5] as usize,
-        used: registers[6] as usize,
-        kept: registers[7] as usize,
-        written: registers[8] as usize,
-    }
+    let &[n, h, pc, sp, fbr, halt, used, kept, written] = registers else {
+        return None;
+    };
+    Some(Registers {
+        n: n as usize,
+        h: h as usize,
+        pc: pc as usize,
+        sp: sp as usize,
+        fbr: fbr as usize,
+        halt: halt as usize,
+        used: used as usize,
+        kept: kept as usize,
+        written: written as usize,
+    })
 }
 
 // Writes them.
@@ -68,33 +68,8 @@ pub(crate) fn write(registers: &mut [u64], r: Registers)
     requires { length registers.old ≡ register_count }
     ensures { registers.new ≡ list_of r }
 {
-    registers[0] = r.n as u64;
-    registers[1] = r.h as u64;
-    registers[2] = r.pc as u64;
-    registers[3] = r.sp as u64;
-    registers[4] = r.fbr as u64;
-    registers[5] = r.halt as u64;
-    registers[6] = r.used as u64;
-    registers[7] = r.kept as u64;
-    registers[8] = r.written as u64;
-}
-
-// Those after a step or a step-back: where it is refused, those before it.
-pub(crate) fn after(r: Registers, step: Step) -> Registers
-    ensures { result ≡ registers_after r step }
-{
-    match step {
-        Step::Next(next) => next,
-        Step::Refused(_) => r,
-    }
-}
-
-// Those after a forget: where it is refused, those before it.
-pub(crate) fn after_forget(r: Registers, forgot: Forgot) -> Registers
-    ensures { result ≡ registers_forgot r forgot }
-{
-    match forgot {
-        Forgot::Forgotten(fewer) => fewer,
-        Forgot::NotForgotten(_) => r,
-    }
+    let listed = [
+        r.n, r.h, r.pc, r.sp, r.fbr, r.halt, r.used, r.kept, r.written,
+    ];
+    registers.copy_from_slice(&listed.map(|x| x as u64));
 }

@@ -5,6 +5,9 @@ ghost use Rattle.rules.specs.State.{memory};
 ghost use Rattle.sam_c.specs.Calls.{moved, reset_call};
 
 use crate::registers;
+use numbers::Numbered;
+use program::Program;
+use state::Lengths;
 
 // Sets cells to INT 0, all history places and all bytes of the output to 0, N and H to the lent counts and the other registers to 0; refused, sets the
 // registers to 0.
@@ -21,16 +24,13 @@ pub extern "C" fn sam_reset(
     ensures { moved result registers.new (memory bits.new tags.new history.new output.new) ≡ reset_call (program table.now length) registers.old (memory bits.old tags.old history.old output.old) }
 {
     if registers.len() != registers::COUNT {
-        return registers::refused(state::has_start_sizes(
-            bits.len(),
-            tags.len(),
-            history.len(),
-            output.len(),
-        ));
+        return registers::refused(Lengths::of(bits, tags, history, output).are_start_sizes());
     }
-    let answer = state::reset(table, length as usize, bits, tags, history, output);
-    let r = answer.registers;
-    let begun = answer.begun;
-    registers::write(registers, r);
-    numbers::reset_number(begun)
+    let p = Program {
+        table,
+        length: length as usize,
+    };
+    let answer = state::reset(p, bits, tags, history, output);
+    registers::write(registers, answer.unwrap_or(state::zero_registers(0, 0)));
+    answer.number()
 }

@@ -5,6 +5,8 @@ ghost use Rattle.rules.specs.State.{memory};
 ghost use Rattle.sam_c.specs.Calls.{walked, run_call};
 
 use crate::{registers, told};
+use numbers::Numbered;
+use program::Program;
 use rules::sizes;
 
 // Makes at most `limit` steps, and tells how many it made.
@@ -25,25 +27,16 @@ pub extern "C" fn sam_run(
     if told.len() != 1 {
         return told::NOT_ITS_LENGTH;
     }
-    if registers.len() != registers::COUNT {
-        told::tell(told, 0);
+    let Some(r) = registers::read(registers) else {
+        told.fill(0);
         return registers::refused(limit as usize <= sizes::MAX_LIMIT);
-    }
-    let r = registers::read(registers);
-    let answer = machine::run::run(
+    };
+    let p = Program {
         table,
-        length as usize,
-        r,
-        bits,
-        tags,
-        history,
-        output,
-        limit as usize,
-    );
-    let steps = answer.steps;
-    let ending = answer.ending;
-    let left = answer.registers;
-    registers::write(registers, left);
-    told::tell(told, steps);
-    numbers::ending_number(ending)
+        length: length as usize,
+    };
+    let answer = machine::run::run(p, r, bits, tags, history, output, limit as usize);
+    registers::write(registers, answer.registers);
+    told.copy_from_slice(&[answer.steps as u64]);
+    answer.ending.number()
 }

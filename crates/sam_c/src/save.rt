@@ -5,6 +5,8 @@ ghost use Rattle.rules.specs.State.{memory};
 ghost use Rattle.sam_c.specs.Calls.{filled, save_call};
 
 use crate::{registers, told};
+use numbers::Numbered;
+use program::Program;
 use rules::sizes;
 
 // Saves a machine's state into an image of 4,638 bytes, and tells the image's length.
@@ -23,25 +25,19 @@ pub extern "C" fn sam_save(
     ensures { filled result told.new image.new ≡ save_call (program table.now length) registers.now (memory bits.now tags.now history.now output.now) image.old told.old }
 {
     if told.len() != 1 {
-        lent::blank_bytes(image, sizes::STATE_SIZE);
+        lent::blank(image, 0, sizes::STATE_SIZE);
         return told::NOT_ITS_LENGTH;
     }
-    if registers.len() != registers::COUNT {
-        told::tell(told, 0);
-        lent::blank_bytes(image, sizes::STATE_SIZE);
+    let Some(r) = registers::read(registers) else {
+        told.fill(0);
+        lent::blank(image, 0, sizes::STATE_SIZE);
         return registers::refused_save(image.len());
-    }
-    let r = registers::read(registers);
-    let answer = saved::save(
+    };
+    let p = Program {
         table,
-        length as usize,
-        r,
-        bits,
-        tags,
-        history,
-        output,
-        image,
-    );
-    told::tell(told, numbers::saved_length(answer));
-    numbers::saved_number(answer)
+        length: length as usize,
+    };
+    let answer = saved::save(p, r, bits, tags, history, output, image);
+    told.copy_from_slice(&[answer.unwrap_or(0) as u64]);
+    answer.number()
 }

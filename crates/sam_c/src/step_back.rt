@@ -5,6 +5,8 @@ ghost use Rattle.rules.specs.State.{memory};
 ghost use Rattle.sam_c.specs.Calls.{moved, back_call};
 
 use crate::registers;
+use numbers::Numbered;
+use program::Program;
 
 // Takes the last step back.
 #[unsafe(no_mangle)]
@@ -19,11 +21,14 @@ pub extern "C" fn sam_step_back(
 ) -> u32
     ensures { moved result registers.new (memory bits.new tags.new history.new output.new) ≡ back_call (program table.now length) registers.old (memory bits.old tags.old history.old output.old) }
 {
-    if registers.len() != registers::COUNT {
+    let Some(r) = registers::read(registers) else {
         return registers::BROKEN;
-    }
-    let r = registers::read(registers);
-    let answer = back::step_back(table, length as usize, r, bits, tags, history, output);
-    registers::write(registers, registers::after(r, answer));
-    numbers::step_number(answer)
+    };
+    let p = Program {
+        table,
+        length: length as usize,
+    };
+    let answer = back::step_back(p, r, bits, tags, history, output);
+    registers::write(registers, numbers::registers_after(r, answer));
+    answer.number()
 }

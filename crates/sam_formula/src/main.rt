@@ -2,8 +2,9 @@
 // the numbers of a to h and stops; all behind it is the formula. So no number is read here: the assembler reads them, and the machine pushes them.
 #![tactic(auto)]
 
+use program::Program;
 use rules::sizes::{MAX_PROGRAM, MAX_SOURCE, NAME_CELLS};
-use rules::{Translated, tags};
+use rules::tags;
 use std::io;
 use std::io::{Read, Write};
 
@@ -12,16 +13,6 @@ mod say;
 
 // The longest source, its LF, the longest formula, and a byte more, so that a formula that is too long is told apart.
 const INPUT_SIZE: usize = MAX_SOURCE + 1 + MAX_SOURCE + 1;
-
-// The place of the first LF, or the input's length where there is none.
-fn first_line_end(input: &[u8]) -> usize {
-    for i in 0..input.len() {
-        if input[i] == b'\n' {
-            return i;
-        }
-    }
-    input.len()
-}
 
 // Prints what the formula makes of the numbers that the source pushes. Its program runs on the cells where they lie, and leaves its number above them.
 fn answer<W: Write>(out: &mut W, source: &[u8], formula: &[u8]) -> io::Result<()> {
@@ -32,27 +23,27 @@ fn answer<W: Write>(out: &mut W, source: &[u8], formula: &[u8]) -> io::Result<()
         return say::no_numbers(out);
     }
     let mut table = [0u64; MAX_PROGRAM];
-    let translated = formula::translate(formula, &mut table);
-    match translated {
-        Translated::NotTranslated(refusal) => say::refusal(out, refusal),
-        Translated::Sized(length, depth) => {
-            say::listing(out, &table, length)?;
-            say::depth(out, depth)?;
+    match formula::translate(formula, &mut table) {
+        Ok(translated) => {
+            let p = Program {
+                table: &table,
+                length: translated.length,
+            };
+            say::listing(out, p)?;
+            say::depth(out, translated.depth)?;
             let start = cells::restarted(pushed);
-            let ran = cells::run(&table, length, start, &mut bits, &mut tags);
-            let ending = ran.ending;
-            say::ending(out, ending, bits[NAME_CELLS])
+            let ran = cells::run(p, start, &mut bits, &mut tags);
+            say::ending(out, ran.ending, bits[NAME_CELLS])
         }
+        Err(refusal) => say::refusal(out, refusal),
     }
 }
 
 // Answers an input: the source up to the first LF, and the formula behind it.
 fn answer_input<W: Write>(out: &mut W, input: &[u8]) -> io::Result<()> {
-    let end = first_line_end(input);
-    if end < input.len() {
-        answer(out, &input[0..end], &input[end + 1..])
-    } else {
-        say::no_numbers(out)
+    match input.iter().position(|b| *b == b'\n') {
+        Some(end) => answer(out, &input[..end], &input[end + 1..]),
+        None => say::no_numbers(out),
     }
 }
 

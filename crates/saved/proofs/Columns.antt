@@ -1,25 +1,28 @@
 -- Cells and bytes one by one, as the loops write and read them. Assumes nothing.
 use Prim.Native.Nat.{ℕ, zero, suc, ◌+◌, ◌*◌, ◌≤◌, ◌<◌}
-use mathlib.Core.Path.{◌≡◌, refl, sym, ap, ap₂, ◌∙◌}
-use mathlib.Core.Bool.{Bool, true, ◌&&◌}
+use mathlib.Core.Path.{◌≡◌, refl, sym, ap, ap₂, subst, ◌∙◌}
+use mathlib.Core.Bool.{Bool, true, false}
 use mathlib.Core.List.{List, [], ◌∷◌, ◌++◌, append_assoc, append-nil}
-use native.Mathlib.Nat.{add_comm, suc-mul}
+use native.Mathlib.Nat.{add_comm, suc-mul, zero-add}
 use native.Mathlib.Numerals.{add-one}
 use native.Mathlib.Omega.{arith}
-use lib.ListN.{length, get_or, take, drop, set}
+use lib.ListN.{length, get_or, take, drop, set, length-drop}
 use lib.Seq.{take-suc, take-suc-set, drop-drop, length-take-le}
+use Rattle.std.specs.Bool.{MatchBool}
+use Rattle.std.specs.List.{AllWithin, HoldsAt, range_with_len}
+use Rattle.std.proofs.lemmas.List.FromFn.{length-range_with_len, get_or-range_with_len}
 use Rattle.rules.specs.Lists.{part, splice}
 use Rattle.rules.specs.Fields.{field, value, bits_of, bytes_of, side, field_in}
 use Rattle.rules.specs.State.{sound_cell, sound_cells}
 use Rattle.rules.specs.SavedState.{head_width, saved_cell_layout, saved_cell_width, cells_saved, column_in, cells_in}
-use Rattle.rules.specs.declared.Cell.{Cell}
 use Rattle.rules.proofs.Fields.{bits_of_append}
 use Rattle.rules.proofs.Splice.{length_splice, splice_beside}
 use Rattle.rules.proofs.SavedState.{cells_saved_length}
+use Rattle.rules.proofs.Tests.{drop_next}
 use Rattle.fields.specs.Within.{put_at}
 use Rattle.fields.proofs.Within.{written_inside}
-use Rattle.state.proofs.Parts.{cells_next, cells_done}
-use Rattle.saved.proofs.OneNumber.{saved_cell}
+use Rattle.state.proofs.Parts.{cells_each}
+use Rattle.saved.specs.Cells.{cell_in}
 
 -- ---- written
 
@@ -49,6 +52,13 @@ pub cells_so_far : (ts bs : List ℕ) (i : ℕ) → length ts ≡ length bs → 
 cells_so_far ts bs i e h =
     let lt : length (take i ts) ≡ i = length-take-le i ts h in
     cells_saved_length (take i ts) (take i bs) (lt ∙ sym (length-take-le i bs (omega (arith, e, h)))) ∙ ap (λ (k : ℕ). k * saved_cell_width) lt
+
+-- what an iterator gives next stands at the place that it has come to
+pub given_next : (xs : List ℕ) (i x : ℕ) (rest : List ℕ) → drop i xs ≡ x ∷ rest → (i < length xs) × (x ≡ get_or xs i 0) × (rest ≡ drop (i + 1) xs)
+given_next xs i x rest e =
+    let h : i < length xs = omega (arith, length-drop i xs, ap length e) in
+    let f : x ∷ rest ≡ get_or xs i 0 ∷ drop (i + 1) xs = sym e ∙ drop_next xs i h in
+    (h, cc, cc)
 
 -- one byte more
 pub bytes_more : (xs : List ℕ) (i : ℕ) → i < length xs → bits_of (take (i + 1) xs) ≡ bits_of (take i xs) ++ field 8 (get_or xs i 0)
@@ -94,15 +104,23 @@ byte_in (suc n) l (suc i) h = byte_in n (drop 8 l) i (omega (arith, h)) ∙ ap (
 pub byte_at : (n : ℕ) (l : List ℕ) (at i : ℕ) → i < n → get_or (bytes_of n (drop at l)) i 0 ≡ value (part (at + i * 8) 8 l)
 byte_at n l at i h = byte_in n (drop at l) i h ∙ ap (λ (d : List ℕ). value (take 8 d)) (drop-drop (i * 8) at l)
 
--- the cells that are left to be judged: one more, and none
-pub judged_next : (count n : ℕ) (l : List ℕ) (i : ℕ) (cell : Cell) (b : Bool) → i < n → cell ≡ saved_cell (drop (head_width + i * saved_cell_width) l)
-    → sound_cell count cell.tag cell.bits ≡ b
-    → sound_cells count (drop i (cells_in n l).tags) (drop i (cells_in n l).bits)
-    ≡ (b && sound_cells count (drop (i + 1) (cells_in n l).tags) (drop (i + 1) (cells_in n l).bits))
-judged_next count n l i cell b h e sound =
-    cells_next count (cells_in n l).tags (cells_in n l).bits i b
-    (omega (arith, h, column_length 0 n (drop head_width l))) (omega (arith, h, column_length 1 n (drop head_width l)))
-    (ap₂ (sound_cell count) (cell_at 0 n l i h) (cell_at 1 n l i h) ∙ sym (ap (λ (c : Cell). sound_cell count c.tag c.bits) e) ∙ sound)
+-- the verdict on the cells, by the judgement of each
+module _ (count n : ℕ) (l : List ℕ) where
+  abbrev pub cell_is : Bool → ℕ → Type 0
+  cell_is b k = sound_cell count (cell_in k l).tag (cell_in k l).bits ≡ b
 
-pub judged_done : (count n : ℕ) (l : List ℕ) (i : ℕ) → n ≤ i → sound_cells count (drop i (cells_in n l).tags) (drop i (cells_in n l).bits) ≡ true
-judged_done count n l i h = cells_done count (cells_in n l).tags (cells_in n l).bits i (omega (arith, h, column_length 0 n (drop head_width l)))
+  judged_at : (b : Bool) (k d : ℕ) → k < n → cell_is b (get_or (range_with_len 0 n) k d) → sound_cell count (get_or (cells_in n l).tags k 0) (get_or (cells_in n l).bits k 0) ≡ b
+  unfolding cell_in
+  judged_at b k d h e =
+      ap₂ (sound_cell count) (cell_at 0 n l k h) (cell_at 1 n l k h) ∙ subst (cell_is b) (get_or-range_with_len 0 n k d h ∙ zero-add k) e
+
+  pub cells_judged : (r : Bool)
+      → MatchBool r (AllWithin (cell_is true) (range_with_len 0 n) 0 (length (range_with_len 0 n))) ((k : ℕ) × (k < length (range_with_len 0 n)) × HoldsAt (cell_is false) (range_with_len 0 n) k)
+      → r ≡ sound_cells count (cells_in n l).tags (cells_in n l).bits
+  cells_judged r w =
+      let lr : length (range_with_len 0 n) ≡ n = length-range_with_len 0 n in
+      let lt : length (cells_in n l).tags ≡ n = column_length 0 n (drop head_width l) in
+      let lb : length (cells_in n l).bits ≡ n = column_length 1 n (drop head_width l) in
+      cells_each count (cells_in n l).tags (cells_in n l).bits r
+      (λ e k ht hb. judged_at true k 0 (omega (arith, ht, lt)) ((rw e at w) k 0 (omega arith) (omega (arith, ht, lt, lr))))
+      (λ e. let v = rw e at w in (v.0, omega (arith, v.1, lr, lt), omega (arith, v.1, lr, lb), judged_at false v.0 0 (omega (arith, v.1, lr)) (v.2 0)))

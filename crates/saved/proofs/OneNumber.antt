@@ -9,10 +9,10 @@ use lib.Seq.{drop-drop}
 use Rattle.rules.specs.Lists.{part}
 use Rattle.rules.specs.Fields.{field, value, total, field_in}
 use Rattle.rules.specs.SavedState.{head_layout, head_width, saved_cell_layout, saved_cell_width, told_cells, told_bytes, registers_in, announced}
-use Rattle.rules.specs.declared.Cell.{Cell}
 use Rattle.rules.specs.declared.Registers.{Registers}
 use Rattle.rules.proofs.Bits.{Bits, part_most, part_value}
 use Rattle.rules.proofs.Splice.{part_part}
+use Rattle.saved.specs.Cells.{saved_cell}
 use Rattle.saved.specs.Reach.{most_cells, most_bytes}
 
 whole_read : (ws : List ℕ) (l : List ℕ) → Bits l → (at : ℕ) → at + total ws ≤ length l → (i : ℕ) → total (take i ws) + get_or ws i 0 ≤ total ws
@@ -51,10 +51,7 @@ pub head_small : (h : ℕ) (l : List ℕ) → Bits l → ((registers_in h l).n �
 unfolding registers_in
 head_small h l x = (omega (arith, part_most l x 0 10), omega (arith, part_most l x 42 9))
 
--- a cell: its bits, and its tag
-abbrev pub saved_cell : List ℕ → Cell
-saved_cell l = record { bits = field_in saved_cell_layout 1 l; tag = field_in saved_cell_layout 0 l }
-
+-- a cell
 pub cell_read : (l : List ℕ) → Bits l → (at : ℕ) → at + saved_cell_width ≤ length l → saved_cell (field saved_cell_width (value (part at saved_cell_width l))) ≡ saved_cell (drop at l)
 cell_read l x at h i =
     record { bits = whole_read saved_cell_layout l x at h 1 (lit≤ tt) i; tag = whole_read saved_cell_layout l x at h 0 (lit≤ tt) i }

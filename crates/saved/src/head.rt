@@ -1,24 +1,13 @@
 // The registers that a saved state holds, side by side in one number: N 10 bits, PC 11, SP 10, FBR 10, HALT 1, output count 9; and a cell in one: tag 3, bits 32.
+// Stays: in one number, since request k's image of a state is these bits side by side.
 ghost use Rattle.std.specs.Prelude.{◌≡◌, [], ◌∷◌};
-ghost use Rattle.rules.specs.Fields.{field, value, side, field_in};
+ghost use Rattle.rules.specs.Fields.{field, value, side};
 ghost use Rattle.rules.specs.SavedState.{head_layout, head_of, head_width, saved_cell_layout, saved_cell_width, registers_in};
+ghost use Rattle.saved.specs.Cells.{saved_cell};
 
 use rules::{Cell, Registers};
 
-// The weight of a field is what 1 counts for in it, and its span is how many numbers it has room for.
-const N_WEIGHT: u64 = 0x200_0000_0000;
-
-const PC_WEIGHT: u64 = 0x4000_0000;
-
-const SP_WEIGHT: u64 = 0x10_0000;
-
-const FBR_WEIGHT: u64 = 0x400;
-
-const HALT_WEIGHT: u64 = 0x200;
-
-const TAG_WEIGHT: u64 = 0x1_0000_0000;
-
-// N, SP and FBR have ten bits.
+// The span of a field is how many numbers it has room for: N, SP and FBR have ten bits.
 const CELL_SPAN: u64 = 0x400;
 
 const PC_SPAN: u64 = 0x800;
@@ -28,6 +17,19 @@ const HALT_SPAN: u64 = 0x2;
 const WRITTEN_SPAN: u64 = 0x200;
 
 const TAG_SPAN: u64 = 0x8;
+
+// The weight of a field is what 1 counts for in it: as much as the fields behind it have room for.
+const HALT_WEIGHT: u64 = WRITTEN_SPAN;
+
+const FBR_WEIGHT: u64 = HALT_SPAN * HALT_WEIGHT;
+
+const SP_WEIGHT: u64 = CELL_SPAN * FBR_WEIGHT;
+
+const PC_WEIGHT: u64 = CELL_SPAN * SP_WEIGHT;
+
+const N_WEIGHT: u64 = PC_SPAN * PC_WEIGHT;
+
+const TAG_WEIGHT: u64 = 0x1_0000_0000;
 
 // The registers as one number: of a register that does not fit its field, the low bits.
 pub(crate) fn head_of(r: Registers) -> u64
@@ -66,7 +68,7 @@ pub(crate) fn cell_number(tag: u8, bits: u32) -> u64
 }
 
 pub(crate) fn cell_of(number: u64) -> Cell
-    ensures { result ≡ record { bits = field_in saved_cell_layout 1 (field saved_cell_width number); tag = field_in saved_cell_layout 0 (field saved_cell_width number) } }
+    ensures { result ≡ saved_cell (field saved_cell_width number) }
 {
     Cell {
         bits: (number % TAG_WEIGHT) as u32,

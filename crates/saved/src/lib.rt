@@ -1,155 +1,115 @@
 // Saved states: a machine's state as an image of bits, and a machine that goes on from one.
 #![tactic(auto)]
 
-use rules::{Load, LoadRefusal, Registers, Resumed, SaveRefusal, Saved, sizes};
+use program::Program;
+use reading::StateImage;
+use rules::{LoadRefusal, Registers, SaveRefusal, sizes};
+use state::Lengths;
 
 mod head;
 mod layout;
 mod reading;
 mod writing;
 
-ghost use Rattle.std.specs.Prelude.{◌≡◌, ◌&&◌, ◌+◌, ◌*◌, ◌≤◌, length};
+ghost use Rattle.std.specs.Prelude.{◌≡◌, ◌≤◌, MatchResult, Ok, Err, length};
 ghost use Rattle.rules.specs.Lists.{every};
 ghost use Rattle.rules.specs.Fields.{bits_of};
-ghost use Rattle.rules.specs.Table.{program};
-ghost use Rattle.rules.specs.State.{memory, sound_cells, range_tests};
-ghost use Rattle.rules.specs.SavedState.{head_width, saved_cell_width, cells_in, lent_sizes, entry, save, load};
+ghost use Rattle.rules.specs.State.{memory};
+ghost use Rattle.rules.specs.SavedState.{registers_in, lent_sizes, not_loaded, loaded, entry, save, load};
+ghost use Rattle.program.specs.Lent.{program_of};
 ghost use Rattle.saved.specs.Outcomes.{saving, loading};
-ghost use Rattle.saved.specs.Reach.{most_cells};
 
 // Saves a machine's state: the image, then zeros, and its length told.
 pub fn save(
-    table: &[u64],
-    length: usize,
+    p: Program<'_>,
     r: Registers,
     bits: &[u32],
     tags: &[u8],
     history: &[u64],
     output: &[u8],
     image: &mut [u8],
-) -> Saved
-    ensures { saving result image.new ≡ save (program table.now length) r (memory bits.now tags.now history.now output.now) image.old }
+) -> Result<usize, SaveRefusal>
+    ensures { saving result image.new ≡ save (program_of p.entry) r (memory bits.now tags.now history.now output.now) image.old }
 {
     if image.len() != sizes::STATE_SIZE {
-        return Saved::NotSaved(SaveRefusal::ImageLength);
+        return Err(SaveRefusal::ImageLength);
     }
-    lent::clear_bytes(image);
-    let sound = state::is_sound(table, length, r, bits, tags, history, output);
-    if !sound {
-        return Saved::NotSaved(SaveRefusal::UnsoundState);
+    image.fill(0);
+    if !state::is_sound(p, r, bits, tags, history, output) {
+        return Err(SaveRefusal::UnsoundState);
     }
-    Saved::Bytes(writing::write_state(r, bits, tags, output, image))
+    Ok(writing::write_state(r, bits, tags, output, image))
 }
 
-// Whether cells, tags, history and output of these lengths take in n saved cells: where not, a load answers 67.
-fn has_lent_sizes(n: usize, bits: usize, tags: usize, history: usize, output: usize) -> bool
-    ensures { result ≡ every (lent_sizes n bits tags history output) }
+// Whether lent slices of these lengths take in n saved cells: where not, a load answers 67.
+fn are_lent_sizes(lent: Lengths, n: usize) -> bool
+    ensures { result ≡ every (lent_sizes n lent.bits lent.tags lent.history lent.output) }
 {
-    if bits != n {
-        return false;
-    }
-    if tags != n {
-        return false;
-    }
-    if sizes::MAX_HISTORY < history {
-        return false;
-    }
-    output <= sizes::MAX_OUTPUT
+    lent.bits == n
+        && lent.tags == n
+        && lent.history <= sizes::MAX_HISTORY
+        && lent.output <= sizes::MAX_OUTPUT
 }
 
-// What a load is refused with before its table and its state are judged, by the lengths of what is lent: 41, then 67.
-pub fn entry(image: &[u8], bits: usize, tags: usize, history: usize, output: usize) -> Resumed
-    ensures { result ≡ entry image.now bits tags history output }
+// The state that an image holds, or what a load is refused with before its table and its state are judged, by the lengths of what is lent: 41, then 67.
+fn entered<'a>(image: &'a [u8], lent: Lengths) -> Result<StateImage<'a>, LoadRefusal>
+    ensures { MatchResult result
+        (λ s. (s.image.now ≡ image.now) × (s.registers ≡ registers_in lent.history (bits_of image.now)) × (entry image.now lent.bits lent.tags lent.history lent.output ≡ Ok tt))
+        (λ e. entry image.now lent.bits lent.tags lent.history lent.output ≡ Err e) }
 {
-    if !fields::has_bits(image, 0, layout::HEAD_WIDTH) {
-        return Resumed::NotGoing(LoadRefusal::StateEndsEarly);
+    let saved = StateImage::of(image, lent.history)?;
+    if !are_lent_sizes(lent, saved.registers.n) {
+        return Err(LoadRefusal::OtherSizes);
     }
-    let r = reading::registers_in(image, history);
-    if !fields::has_bits(image, 0, layout::announced(r.n, r.written)) {
-        return Resumed::NotGoing(LoadRefusal::StateEndsEarly);
-    }
-    let fits = has_lent_sizes(r.n, bits, tags, history, output);
-    if !fits {
-        return Resumed::NotGoing(LoadRefusal::OtherSizes);
-    }
-    Resumed::Going
+    Ok(saved)
 }
 
-// Whether a state that an image holds is one that a step takes, in a program of `count` instructions and beside a history and an output of these lengths.
-fn is_sound_in(
-    image: &[u8],
-    table: &[u64],
-    count: usize,
-    r: Registers,
-    history: usize,
-    output: usize,
-) -> bool
-    requires { (r.n ≤ most_cells) × (head_width + r.n * saved_cell_width ≤ length image.now * 8) }
-    ensures { result ≡ (every (range_tests (program table.now count) r r.n r.n history output) && sound_cells count (cells_in r.n (bits_of image.now)).tags (cells_in r.n (bits_of image.now)).bits) }
+// What a load is refused with before its table and its state are judged.
+pub fn entry(image: &[u8], lent: Lengths) -> Result<(), LoadRefusal>
+    ensures { result ≡ entry image.now lent.bits lent.tags lent.history lent.output }
 {
-    let ranged = state::is_in_range(table, count, r, r.n, r.n, history, output);
-    if !ranged {
-        return false;
-    }
-    reading::are_sound_cells_in(image, r.n, count)
+    entered(image, lent)?;
+    Ok(())
 }
 
-// Whether a load is accepted, or what it is refused with: 41, 67, 10, 45 in this order.
-fn verdict(
-    image: &[u8],
-    table: &[u64],
-    length: usize,
+// The state that a load is to take in, or what it is refused with: 41, 67, 10, 45 in this order.
+fn verdict<'a>(
+    image: &'a [u8],
+    p: Program<'_>,
     bits: &[u32],
     tags: &[u8],
     history: &[u64],
     output: &[u8],
-) -> Resumed
-    ensures { result ≡ (load image.now (program table.now length) (memory bits.now tags.now history.now output.now)).answer.resumed }
+) -> Result<StateImage<'a>, LoadRefusal>
+    ensures { MatchResult result
+        (λ s. (s.image.now ≡ image.now) × (length bits.now ≡ s.registers.n) × (length tags.now ≡ s.registers.n) × (s.registers.written ≤ length output.now)
+        × (load image.now (program_of p.entry) (memory bits.now tags.now history.now output.now) ≡ loaded s.registers (bits_of image.now) (memory bits.now tags.now history.now output.now)))
+        (λ e. load image.now (program_of p.entry) (memory bits.now tags.now history.now output.now) ≡ not_loaded (memory bits.now tags.now history.now output.now) e) }
 {
-    match entry(image, bits.len(), tags.len(), history.len(), output.len()) {
-        Resumed::NotGoing(refusal) => Resumed::NotGoing(refusal),
-        Resumed::Going => {
-            let r = reading::registers_in(image, history.len());
-            let sound = is_sound_in(image, table, length, r, history.len(), output.len());
-            if !sound {
-                return Resumed::NotGoing(LoadRefusal::OutsideRanges);
-            }
-            let padded = fields::is_padded(image, layout::announced(r.n, r.written));
-            if !padded {
-                return Resumed::NotGoing(LoadRefusal::StatePadding);
-            }
-            Resumed::Going
-        }
+    let saved = entered(image, Lengths::of(bits, tags, history, output))?;
+    if !saved.is_sound(p, output.len()) {
+        return Err(LoadRefusal::OutsideRanges);
     }
+    if !saved.is_padded() {
+        return Err(LoadRefusal::StatePadding);
+    }
+    Ok(saved)
 }
 
-// Loads a saved state: cells, tags, written output and registers as they were saved, history and the output's rest zero; or refuses, answers zero registers and
-// changes nothing.
+// Loads a saved state: cells, tags, written output and registers as they were saved, history and the output's rest zero; or refuses and changes nothing.
 pub fn load(
     image: &[u8],
-    table: &[u64],
-    length: usize,
+    p: Program<'_>,
     bits: &mut [u32],
     tags: &mut [u8],
     history: &mut [u64],
     output: &mut [u8],
-) -> Load
-    ensures { loading result bits.new tags.new history.new output.new ≡ load image.now (program table.now length) (memory bits.old tags.old history.old output.old) }
+) -> Result<Registers, LoadRefusal>
+    ensures { loading result bits.new tags.new history.new output.new ≡ load image.now (program_of p.entry) (memory bits.old tags.old history.old output.old) }
 {
-    match verdict(image, table, length, bits, tags, history, output) {
-        Resumed::NotGoing(refusal) => Load {
-            resumed: Resumed::NotGoing(refusal),
-            registers: state::zero_registers(0, 0),
-        },
-        Resumed::Going => {
-            let r = reading::registers_in(image, history.len());
-            reading::read_cells(image, bits, tags);
-            lent::clear_places(history);
-            reading::read_output(image, layout::behind_cells(r.n), r.written, output);
-            Load {
-                resumed: Resumed::Going,
-                registers: r,
-            }
-        }
-    }
+    let saved = verdict(image, p, bits, tags, history, output)?;
+    saved.read_cells(bits, tags);
+    history.fill(0);
+    saved.read_output(output);
+    Ok(saved.registers)
 }

@@ -1,73 +1,120 @@
 // The load's part that reads an image: its registers, cell after cell, byte after byte.
-ghost use Rattle.std.specs.Prelude.{◌≡◌, ◌++◌, ◌+◌, ◌-◌, ◌*◌, ◌<◌, ◌≤◌, length, drop, replicate};
-ghost use Rattle.rules.specs.Fields.{bits_of, bytes_of, field_in};
-ghost use Rattle.rules.specs.State.{sound_cells};
-ghost use Rattle.rules.specs.SavedState.{head_width, saved_cell_layout, saved_cell_width, registers_in, cells_in};
-ghost use Rattle.saved.specs.Reach.{most_cells, most_bytes, output_reach};
+ghost use Rattle.std.specs.Prelude.{◌≡◌, ◌&&◌, ◌++◌, ◌+◌, ◌-◌, ◌*◌, ◌<◌, ◌≤◌, length, drop, replicate, MatchResult};
+ghost use Rattle.rules.specs.Fields.{bits_of, padded};
+ghost use Rattle.rules.specs.Lists.{every};
+ghost use Rattle.rules.specs.State.{sound_cell, sound_cells, range_tests};
+ghost use Rattle.rules.specs.SavedState.{told_cells, told_bytes, registers_in, cells_in, announced, bytes_in};
+ghost use Rattle.rules.specs.declared.LoadRefusal.TheVariants.{StateEndsEarly};
+ghost use Rattle.program.specs.Lent.{program_of};
+ghost use Rattle.saved.specs.Cells.{cell_in};
+ghost use Rattle.saved.specs.Reach.{most_cells, most_bytes};
 
 use crate::head::{cell_of, registers_of};
-use crate::layout::{BYTE_WIDTH, CELL_WIDTH, HEAD_WIDTH, behind_cells};
-use fields::get;
-use rules::{Cell, Registers};
+use crate::layout::{BYTE_WIDTH, CELL_WIDTH, HEAD_WIDTH, announced, behind_cells};
+use fields::{get, has_bits};
+use program::Program;
+use rules::{Cell, LoadRefusal, Registers};
+use state::Lengths;
 
-// The registers, beside a history of h places.
-pub(crate) fn registers_in(image: &[u8], h: usize) -> Registers
-    requires { head_width ≤ length image.now * 8 }
-    ensures registers { result ≡ registers_in h (bits_of image.now) }
-    ensures small { (result.n ≤ most_cells) × (result.written ≤ most_bytes) }
-{
-    registers_of(get(image, 0, HEAD_WIDTH), h)
+// A state in an image that has all that its head announces, with its registers beside the history of a load.
+#[derive(Clone, Copy)]
+pub(crate) struct StateImage<'a> {
+    image: &'a [u8],
+    pub(crate) registers: Registers,
+    ghost whole: { announced registers.n registers.written ≤ length image.now * 8 },
+    ghost few_cells: { registers.n ≤ most_cells },
+    ghost few_bytes: { registers.written ≤ most_bytes },
 }
 
-// Cell i.
-fn cell_in(image: &[u8], i: usize) -> Cell
-    requires { (i ≤ most_cells) × (head_width + i * saved_cell_width + saved_cell_width ≤ length image.now * 8) }
-    ensures { result ≡ record { bits = field_in saved_cell_layout 1 (drop (head_width + i * saved_cell_width) (bits_of image.now)); tag = field_in saved_cell_layout 0 (drop (head_width + i * saved_cell_width) (bits_of image.now)) } }
-{
-    cell_of(get(image, behind_cells(i), CELL_WIDTH))
-}
-
-// Whether each of n cells may stand in a sound state of a program of `count` instructions.
-pub(crate) fn are_sound_cells_in(image: &[u8], n: usize, count: usize) -> bool
-    requires { (n ≤ most_cells) × (head_width + n * saved_cell_width ≤ length image.now * 8) }
-    ensures { result ≡ sound_cells count (cells_in n (bits_of image.now)).tags (cells_in n (bits_of image.now)).bits }
-{
-    let mut i = 0;
-    while i < n {
-        let cell = cell_in(image, i);
-        let ok = state::is_sound_cell(count, cell.tag, cell.bits);
-        if !ok {
-            return false;
+impl<'a> StateImage<'a> {
+    // The state in the image, beside a history of h places.
+    pub(crate) fn of(image: &'a [u8], h: usize) -> Result<StateImage<'a>, LoadRefusal>
+        ensures { MatchResult result
+            (λ s. (s.image.now ≡ image.now) × (s.registers ≡ registers_in h (bits_of image.now)))
+            (λ e. (length image.now * 8 < announced (told_cells (bits_of image.now)) (told_bytes (bits_of image.now))) × (e ≡ StateEndsEarly)) }
+    {
+        if !has_bits(image, 0, HEAD_WIDTH) {
+            return Err(LoadRefusal::StateEndsEarly);
         }
-        i += 1;
+        let registers = registers_of(get(image, 0, HEAD_WIDTH), h);
+        if !has_bits(image, 0, announced(registers.n, registers.written)) {
+            return Err(LoadRefusal::StateEndsEarly);
+        }
+        Ok(StateImage { image, registers })
     }
-    true
-}
 
-// Reads as many cells as there are bits and tags.
-pub(crate) fn read_cells(image: &[u8], bits: &mut [u32], tags: &mut [u8])
-    requires { (length tags.old ≡ length bits.old) × (length bits.old ≤ most_cells) × (head_width + length bits.old * saved_cell_width ≤ length image.now * 8) }
-    ensures bits { bits.new ≡ (cells_in (length bits.old) (bits_of image.now)).bits }
-    ensures tags { tags.new ≡ (cells_in (length bits.old) (bits_of image.now)).tags }
-{
-    let mut i = 0;
-    while i < bits.len() {
-        let cell = cell_in(image, i);
-        bits[i] = cell.bits;
-        tags[i] = cell.tag;
-        i += 1;
+    // Cell i.
+    fn cell(&self, i: usize) -> Cell
+        requires { i < self.now.registers.n }
+        ensures { result ≡ cell_in i (bits_of self.now.image.now) }
+    {
+        cell_of(get(self.image, behind_cells(i), CELL_WIDTH))
     }
-}
 
-// Reads so many bytes of output from bit `at` on, and zeroes the output's rest.
-pub(crate) fn read_output(image: &[u8], at: usize, written: usize, output: &mut [u8])
-    requires { (at ≤ output_reach) × (written ≤ length output.old) × (written ≤ most_bytes) × (at + written * 8 ≤ length image.now * 8) }
-    ensures { output.new ≡ bytes_of written (drop at (bits_of image.now)) ++ replicate (length output.old - written) 0 }
-{
-    lent::clear_bytes(output);
-    let mut i = 0;
-    while i < written {
-        output[i] = get(image, at + i * BYTE_WIDTH, BYTE_WIDTH) as u8;
-        i += 1;
+    // Whether cell i may stand in a sound state of a program of `count` instructions.
+    fn is_sound_cell(&self, i: usize, count: usize) -> bool
+        requires { i < self.now.registers.n }
+        ensures { result ≡ sound_cell count (cell_in i (bits_of self.now.image.now)).tag (cell_in i (bits_of self.now.image.now)).bits }
+    {
+        let cell = self.cell(i);
+        state::is_sound_cell(count, cell.tag, cell.bits)
+    }
+
+    // Whether each cell may.
+    fn are_sound_cells(&self, count: usize) -> bool
+        ensures { result ≡ sound_cells count (cells_in self.now.registers.n (bits_of self.now.image.now)).tags (cells_in self.now.registers.n (bits_of self.now.image.now)).bits }
+    {
+        (0..self.registers.n).all(|i| self.is_sound_cell(i, count))
+    }
+
+    // Whether it is a state that a step takes, in this program and beside an output of this length.
+    pub(crate) fn is_sound(&self, p: Program<'_>, output: usize) -> bool
+        ensures { result ≡ (every (range_tests (program_of p.entry) self.now.registers self.now.registers.n self.now.registers.n self.now.registers.h output) && sound_cells p.entry.length (cells_in self.now.registers.n (bits_of self.now.image.now)).tags (cells_in self.now.registers.n (bits_of self.now.image.now)).bits) }
+    {
+        let r = self.registers;
+        let lent = Lengths {
+            bits: r.n,
+            tags: r.n,
+            history: r.h,
+            output,
+        };
+        state::is_in_range(p, r, lent) && self.are_sound_cells(p.length)
+    }
+
+    // Whether less than a byte is left behind it, and that zero.
+    pub(crate) fn is_padded(&self) -> bool
+        ensures { result ≡ padded (drop (announced self.now.registers.n self.now.registers.written) (bits_of self.now.image.now)) }
+    {
+        fields::is_padded(
+            self.image,
+            announced(self.registers.n, self.registers.written),
+        )
+    }
+
+    // Reads the cells.
+    pub(crate) fn read_cells(&self, bits: &mut [u32], tags: &mut [u8])
+        requires { (length bits.old ≡ self.now.registers.n) × (length tags.old ≡ self.now.registers.n) }
+        ensures bits { bits.new ≡ (cells_in self.now.registers.n (bits_of self.now.image.now)).bits }
+        ensures tags { tags.new ≡ (cells_in self.now.registers.n (bits_of self.now.image.now)).tags }
+    {
+        // Stays: by index, since of a zip of two `iter_mut`s a proof learns the lengths and no element.
+        for i in 0..self.registers.n {
+            let cell = self.cell(i);
+            bits[i] = cell.bits;
+            tags[i] = cell.tag;
+        }
+    }
+
+    // Reads the written output, and zeroes the output's rest.
+    pub(crate) fn read_output(&self, output: &mut [u8])
+        requires { self.now.registers.written ≤ length output.old }
+        ensures { output.new ≡ bytes_in self.now.registers (bits_of self.now.image.now) ++ replicate (length output.old - self.now.registers.written) 0 }
+    {
+        let at = behind_cells(self.registers.n);
+        let (bytes, rest) = output.split_at_mut(self.registers.written);
+        for (i, byte) in bytes.iter_mut().enumerate() {
+            *byte = get(self.image, at + i * BYTE_WIDTH, BYTE_WIDTH) as u8;
+        }
+        rest.fill(0);
     }
 }

@@ -1,5 +1,5 @@
 // The save's part that writes: the head, cell after cell, byte after byte, over zeros.
-ghost use Rattle.std.specs.Prelude.{◌≡◌, ◌+◌, ◌*◌, ◌≤◌, length, take, replicate};
+ghost use Rattle.std.specs.Prelude.{◌≡◌, ◌+◌, ◌*◌, ◌≤◌, length, replicate};
 ghost use Rattle.rules.specs.Lists.{splice};
 ghost use Rattle.rules.specs.Sizes.{max_cells, max_output, state_size};
 ghost use Rattle.rules.specs.Fields.{bits_of, packed_to, bytes_for};
@@ -16,27 +16,18 @@ fn write_cells(tags: &[u8], bits: &[u32], image: &mut [u8])
     requires { (length tags.now ≡ length bits.now) × (length tags.now ≤ max_cells) × (length image.old ≡ state_size) }
     ensures { bits_of image.new ≡ splice (bits_of image.old) head_width (cells_saved tags.now bits.now) }
 {
-    let mut i = 0;
-    while i < tags.len() {
-        put(
-            image,
-            behind_cells(i),
-            CELL_WIDTH,
-            cell_number(tags[i], bits[i]),
-        );
-        i += 1;
+    for (i, (tag, bits)) in tags.iter().zip(bits).enumerate() {
+        put(image, behind_cells(i), CELL_WIDTH, cell_number(*tag, *bits));
     }
 }
 
-// Writes the first bytes of an output, from bit `at` on.
-fn write_output(output: &[u8], written: usize, image: &mut [u8], at: usize)
-    requires { (written ≤ length output.now) × (written ≤ max_output) × (at + written * 8 ≤ state_size * 8) × (length image.old ≡ state_size) }
-    ensures { bits_of image.new ≡ splice (bits_of image.old) at (bits_of (take written output.now)) }
+// Writes an output, from bit `at` on.
+fn write_output(output: &[u8], image: &mut [u8], at: usize)
+    requires { (length output.now ≤ max_output) × (at + length output.now * 8 ≤ state_size * 8) × (length image.old ≡ state_size) }
+    ensures { bits_of image.new ≡ splice (bits_of image.old) at (bits_of output.now) }
 {
-    let mut i = 0;
-    while i < written {
-        put(image, at + i * BYTE_WIDTH, BYTE_WIDTH, output[i] as u64);
-        i += 1;
+    for (i, byte) in output.iter().enumerate() {
+        put(image, at + i * BYTE_WIDTH, BYTE_WIDTH, *byte as u64);
     }
 }
 
@@ -54,6 +45,6 @@ pub(crate) fn write_state(
 {
     put(image, 0, HEAD_WIDTH, head_of(r));
     write_cells(tags, bits, image);
-    write_output(output, r.written, image, behind_cells(r.n));
-    (announced(r.n, r.written) + 7) / 8
+    write_output(&output[..r.written], image, behind_cells(r.n));
+    announced(r.n, r.written).div_ceil(8)
 }

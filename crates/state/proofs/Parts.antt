@@ -1,54 +1,44 @@
 -- A state's soundness in the parts that are judged one by one, and what a sound state gives to those who lean on it. Assumes nothing.
-use Prim.Native.Nat.{ℕ, ◌+◌, ◌≤◌, ◌<◌}
-use mathlib.Core.Path.{◌≡◌, refl, sym, ap, ap₂, ◌∙◌}
-use mathlib.Core.Bool.{Bool, true, false, ◌&&◌, and-true, and_assoc}
-use mathlib.Core.List.{List}
-use lib.ListN.{length, get_or, drop, drop_of_length-le}
+use Prim.Native.Nat.{ℕ, zero, suc, ◌<◌}
+use mathlib.Core.Path.{◌≡◌, refl, sym, ap, ◌∙◌}
+use mathlib.Core.Bool.{Bool, true, false, ◌&&◌, and-true, and-false, and_assoc}
+use mathlib.Core.List.{List, [], ◌∷◌}
+use lib.ListN.{length, get_or}
 use native.Mathlib.Omega.{arith}
 use borrow.Author.Tests.{eqb-true}
 use Rattle.rules.specs.Lists.{every}
-use Rattle.rules.specs.Table.{Program, sound_table}
-use Rattle.rules.specs.State.{Memory, sound_cell, sound_cells, kept_sizes, registers_within, output_within, range_tests, sound}
+use Rattle.rules.specs.Table.{Program}
+use Rattle.rules.specs.State.{Memory, sound_cell, sound_cells, range_tests, sound}
 use Rattle.rules.specs.declared.Registers.{Registers}
-use Rattle.rules.proofs.Tests.{and_then, every_at, drop_next}
+use Rattle.rules.proofs.Tests.{and_then, every_at}
 use Rattle.rules.proofs.Table.{table_short, table_long}
 use Rattle.rules.proofs.Fair.{Sound}
 use Rattle.rules.proofs.FairEffects.{sound_facts}
 use Rattle.state.specs.Held.{Held}
 
--- ---- the loop over the cells: one cell more, and no cell left
+-- ---- the cells, one by one
 
-pub cells_next : (count : ℕ) (ts bs : List ℕ) (i : ℕ) (b : Bool) → i < length ts → i < length bs → sound_cell count (get_or ts i 0) (get_or bs i 0) ≡ b
-    → sound_cells count (drop i ts) (drop i bs) ≡ (b && sound_cells count (drop (i + 1) ts) (drop (i + 1) bs))
-cells_next count ts bs i b ht hb e =
-    ap₂ (sound_cells count) (drop_next ts i ht) (drop_next bs i hb)
-    ∙ ap (λ (t : Bool). t && sound_cells count (drop (i + 1) ts) (drop (i + 1) bs)) e
+cells_all : (count : ℕ) (ts bs : List ℕ) → ((k : ℕ) → k < length ts → k < length bs → sound_cell count (get_or ts k 0) (get_or bs k 0) ≡ true)
+    → sound_cells count ts bs ≡ true
+cells_all count [] bs each = refl
+cells_all count (t ∷ ts) [] each = refl
+cells_all count (t ∷ ts) (b ∷ bs) each =
+    and_then (each 0 (omega arith) (omega arith)) (cells_all count ts bs (λ k ht hb. each (suc k) (omega arith) (omega arith)))
 
-pub cells_done : (count : ℕ) (ts bs : List ℕ) (i : ℕ) → length ts ≤ i → sound_cells count (drop i ts) (drop i bs) ≡ true
-cells_done count ts bs i h = ap (λ (l : List ℕ). sound_cells count l (drop i bs)) (drop_of_length-le ts h)
+cells_one : (count : ℕ) (ts bs : List ℕ) (k : ℕ) → k < length ts → k < length bs → sound_cell count (get_or ts k 0) (get_or bs k 0) ≡ false
+    → sound_cells count ts bs ≡ false
+cells_one count [] bs k ht hb e = absurd (omega (arith, ht))
+cells_one count (t ∷ ts) [] k ht hb e = absurd (omega (arith, hb))
+cells_one count (t ∷ ts) (b ∷ bs) zero ht hb e = ap (λ (u : Bool). u && sound_cells count ts bs) e
+cells_one count (t ∷ ts) (b ∷ bs) (suc k) ht hb e =
+    ap (λ (u : Bool). sound_cell count t b && u) (cells_one count ts bs k (omega arith) (omega arith) e) ∙ and-false (sound_cell count t b)
 
--- ---- the ranges, in the parts that are judged one by one: the early returns of the judgement, and its end
-module _ (p : Program) (r : Registers) (bits tags history output : ℕ) where
-  abbrev ranged : Bool
-  ranged = every (range_tests p r bits tags history output)
-
-  range_parts : ranged
-      ≡ (sound_table p && (every (kept_sizes r bits tags history) && (every (registers_within p.count r) && every (output_within r.written output))))
-  range_parts = simp (and-true, and_assoc)
-
-  pub range_table : sound_table p ≡ false → ranged ≡ false
-  range_table h = range_parts ∙ rw h refl
-
-  module _ (made : sound_table p ≡ true) where
-    pub range_sizes : every (kept_sizes r bits tags history) ≡ false → ranged ≡ false
-    range_sizes h = range_parts ∙ and_then made (rw h refl)
-
-    module _ (sized : every (kept_sizes r bits tags history) ≡ true) where
-      pub range_registers : every (registers_within p.count r) ≡ false → ranged ≡ false
-      range_registers h = range_parts ∙ and_then made (and_then sized (rw h refl))
-
-      pub range_output : every (registers_within p.count r) ≡ true → ranged ≡ every (output_within r.written output)
-      range_output h = range_parts ∙ and_then made (and_then sized (and_then h refl))
+-- the verdict on them all, from what the judgement of each gives
+pub cells_each : (count : ℕ) (ts bs : List ℕ) (r : Bool)
+    → (r ≡ true → (k : ℕ) → k < length ts → k < length bs → sound_cell count (get_or ts k 0) (get_or bs k 0) ≡ true)
+    → (r ≡ false → (k : ℕ) × (k < length ts) × (k < length bs) × (sound_cell count (get_or ts k 0) (get_or bs k 0) ≡ false)) → r ≡ sound_cells count ts bs
+cells_each count ts bs true each one = sym (cells_all count ts bs (each refl))
+cells_each count ts bs false each one = let w = one refl in sym (cells_one count ts bs w.0 w.1 w.2 w.3)
 
 -- ---- a state: its ranges, and then its cells
 module _ (p : Program) (r : Registers) (m : Memory) where
@@ -59,12 +49,6 @@ module _ (p : Program) (r : Registers) (m : Memory) where
   pub sound_parts : sound p r m ≡ (every ranges && sound_cells p.count m.cells.tags m.cells.bits)
   unfolding sound
   sound_parts = simp (and-true, and_assoc)
-
-  pub sound_ranges : every ranges ≡ false → sound p r m ≡ false
-  sound_ranges h = sound_parts ∙ rw h refl
-
-  pub sound_cells_lem : every ranges ≡ true → sound p r m ≡ sound_cells p.count m.cells.tags m.cells.bits
-  sound_cells_lem h = sound_parts ∙ and_then h refl
 
   pub cells_equal : every ranges ≡ true → length m.cells.tags ≡ length m.cells.bits
   cells_equal h = eqb-true _ _ (every_at ranges 5 h) ∙ sym (eqb-true _ _ (every_at ranges 4 h))

@@ -1,3 +1,4 @@
--- What a call leans on in a sound state, and its answer with what it leaves.
+-- What a call leans on in a sound state, its answer with what it leaves, and the lengths of what it is lent.
 pub mod Held
+pub mod Lent
 pub mod Outcomes

@@ -14,19 +14,14 @@ const INPUT_SIZE: usize = 65_536;
 
 // Shows the programs of an input, each behind the one before it.
 fn programs<W: Write>(out: &mut W, input: &[u8]) -> io::Result<()> {
-    let mut start = 0;
-    let mut name = 0;
-    for i in 0..input.len() {
-        if input[i] == b'~' {
-            name = i + 1;
-        } else {
-            if input[i] == b'\n' {
-                if start < name {
-                    show::show(out, &input[name..i], &input[start..name - 1])?;
-                    start = i + 1;
-                }
-            }
-        }
+    let mut rest = input;
+    while let Some(mark) = rest.iter().position(|b| *b == b'~') {
+        let (source, named) = (&rest[..mark], &rest[mark + 1..]);
+        let Some(end) = named.iter().position(|b| *b == b'\n') else {
+            break;
+        };
+        show::show(out, &named[..end], source)?;
+        rest = &named[end + 1..];
     }
     Ok(())
 }

@@ -1,4 +1,5 @@
 // What is written for a program, and for a cell.
+use rules::Cell;
 use std::io;
 use std::io::Write;
 
@@ -13,10 +14,10 @@ pub(crate) fn show<W: Write>(to: &mut W, name: &[u8], source: &[u8]) -> io::Resu
 }
 
 // Writes a word, a space and the console's line for cell 0.
-pub(crate) fn show_cell<W: Write>(to: &mut W, word: &[u8], bits: u32, tag: u8) -> io::Result<()> {
+pub(crate) fn show_cell<W: Write>(to: &mut W, word: &[u8], cell: Cell) -> io::Result<()> {
     to.write_all(word)?;
     to.write_all(b" ")?;
     let mut line = [0u8; 64];
-    let told = console::put_cell(&mut line, 0, 0, bits, tag);
+    let told = console::put_cell(&mut line, 0, 0, cell);
     to.write_all(&line[..told])
 }

@@ -1,13 +1,13 @@
 -- Laws of the tokens from a place of a source on: what stands there decides where they go on. Assumes nothing.
-use mathlib.Core.Path.{◌≡◌, refl, ap, sym, ◌∙◌}
-use mathlib.Core.Bool.{Bool, true, false, ◌||◌, true≢false}
-use lib.Dec.{ltb, eqb}
-use borrow.Author.Tests.{ltb-true, ltb-false, eq-eqb, ne_eqb}
+use mathlib.Core.Path.{◌≡◌, refl, ap, ◌∙◌}
+use mathlib.Core.Bool.{true, false, ◌||◌}
+use lib.Dec.{eqb}
+use borrow.Author.Tests.{eq-eqb, ne_eqb}
 use mathlib.Core.List.{List, [], ◌∷◌}
 use Prim.Native.Nat.{ℕ, suc, ◌+◌, ◌-◌, ◌≤◌, ◌<◌}
 use native.Mathlib.Omega.{arith}
 use lib.ListN.{length, drop, get_or, drop_of_length-le}
-use Rattle.rules.proofs.Tests.{drop_next}
+use Rattle.rules.proofs.Tests.{by_test, drop_next}
 use Rattle.rules.proofs.Tokens.{tokens_blank, tokens_comment, tokens_last, tokens_more}
 use Rattle.rules.specs.Bytes.{blank}
 use Rattle.rules.specs.Tokens.{opens, stops, last, extend, tokens, comment}
@@ -83,41 +83,17 @@ module _ (src : List ℕ) (i : ℕ) where
   unfolding stops
   stops_here h = rw (drop_next src i h)
 
-  pub opens_none : i < length src → (get_or src i 0 ≡ 47 → ⊥) → opens (drop i src) ≡ false
-  unfolding opens
-  opens_none h k = ap opens (drop_next src i h) ∙ go (drop (i + 1) src)
-    where
-      go : (s : List ℕ) → opens (get_or src i 0 ∷ s) ≡ false
-      go [] = refl
-      go (b ∷ s) = rw (ne_eqb (get_or src i 0) 47 k)
-
-  pub opens_short : i < length src → length src ≤ i + 1 → opens (drop i src) ≡ false
-  unfolding opens
-  opens_short h k = rw (drop_next src i h, drop_of_length-le src k)
-
-pub opens_two : (src : List ℕ) (i : ℕ) → i + 1 < length src → get_or src i 0 ≡ 47 → opens (drop i src) ≡ eqb (get_or src (i + 1) 0) 47
-unfolding opens
-opens_two src i h k =
-    let l : i < length src = omega arith in
-    rw (drop_next src i l, drop_next src (i + 1) h, k)
-
 pub last_colon : (b : ℕ) (s : List ℕ) → b ≡ 58 → last b s ≡ true
 unfolding last
 last_colon b s h = rw (eq-eqb b 58 h)
+
+pub last_stops : (b : ℕ) (s : List ℕ) → stops s ≡ true → last b s ≡ true
+unfolding last
+last_stops b s h = by_test (eqb b 58) (λ k. rw k refl) (λ k. rw (k, h) refl)
 
 pub last_other : (b : ℕ) (s : List ℕ) → (b ≡ 58 → ⊥) → last b s ≡ stops s
 unfolding last
 last_other b s h = rw (ne_eqb b 58 h)
 
-pub stops_blank : (src : List ℕ) (i : ℕ) → i < length src → blank (get_or src i 0) ≡ true → stops (drop i src) ≡ true
-stops_blank src i h k = stops_here src i h ∙ rw k
-
 pub stops_other : (src : List ℕ) (i : ℕ) → i < length src → blank (get_or src i 0) ≡ false → stops (drop i src) ≡ opens (drop i src)
 stops_other src i h k = stops_here src i h ∙ rw k
-
-pub stops_in : (src : List ℕ) (i : ℕ) → stops (drop i src) ≡ false → i < length src
-stops_in src i h = go (ltb i (length src)) refl
-  where
-    go : (b : Bool) → ltb i (length src) ≡ b → i < length src
-    go true e = ltb-true i (length src) e
-    go false e = absurd (true≢false (sym (stops_end src i (ltb-false i (length src) e)) ∙ h))

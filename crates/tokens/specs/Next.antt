@@ -1,9 +1,8 @@
 -- What stands next in a source: the tokens from a place on, and what each function of the scanner answers of them. Assumes nothing.
-use Rattle.std.specs.Prelude.{ℕ, ◌-◌, ◌≤◌, ◌<◌, ◌≡◌, false, List, [], ◌∷◌, length, drop}
+use Rattle.std.specs.Prelude.{ℕ, ◌-◌, ◌≤◌, ◌<◌, ◌≡◌, false, List, [], ◌∷◌, length, drop, Option, Some, None}
 use Rattle.rules.specs.Lists.{part}
 use Rattle.rules.specs.Tokens.{Token, stops, tokens, comment}
-use Rattle.tokens.specs.declared.Next.{Next}
-use Rattle.tokens.specs.declared.Next.TheVariants.{Found, Done}
+use Rattle.tokens.specs.declared.Token as declared
 
 -- the tokens of a source from the place i on, and those after a comment that is open there
 unfoldable pub from : List ℕ → ℕ → List Token
@@ -43,6 +42,6 @@ pub record FoundAt (src : List ℕ) (at start end : ℕ) : Type 0 where
   pub first : from src at ≡ record { at = start; text = between src start end } ∷ from src end
 
 -- what the scanner answers: the next token, or that none is left
-abbrev pub NextIs : List ℕ → ℕ → Next → Type 0
-NextIs src at (Found start end) = FoundAt src at start end
-NextIs src at Done = from src at ≡ []
+abbrev pub NextIs : List ℕ → ℕ → Option declared.Token → Type 0
+NextIs src at (Some t) = FoundAt src at t.start t.end
+NextIs src at None = from src at ≡ []

@@ -7,78 +7,61 @@ ghost use Rattle.rules.specs.Bytes.{blank};
 ghost use Rattle.rules.specs.Tokens.{opens, stops};
 ghost use Rattle.tokens.specs.Next.{Skipped, Ended, Closed, NextIs};
 
-// What stands next in a source: a token, from its first byte to just before an end, or nothing.
+// A token in a source: the place of its first byte, and the place just after its last.
 #[derive(Clone, Copy)]
-pub enum Next {
-    Found(usize, usize),
-    Done,
+pub struct Token {
+    pub start: usize,
+    pub end: usize,
 }
 
 // A separator: space, tab, CR or LF.
+#[tactic(auto, unfolding(rules::specs::Bytes::blank))]
 fn is_blank(b: u8) -> bool
     ensures { result ≡ blank b }
 {
-    if b == b' ' {
-        return true;
-    }
-    if b == b'\t' {
-        return true;
-    }
-    if b == b'\r' {
-        return true;
-    }
-    b == b'\n'
+    b == b' ' || b == b'\t' || b == b'\r' || b == b'\n'
 }
 
 // Whether `//` stands at the place i.
+#[tactic(auto, unfolding(rules::specs::Tokens::opens))]
 fn opens_at(src: &[u8], i: usize) -> bool
     requires { i < length src.now }
     ensures { result ≡ opens (drop i src.now) }
 {
-    if src[i] != b'/' {
-        return false;
-    }
-    if src.len() - i < 2 {
-        return false;
-    }
-    src[i + 1] == b'/'
+    src[i] == b'/' && src.len() - i >= 2 && src[i + 1] == b'/'
 }
 
 // Whether no byte of a token stands at the place i.
+#[tactic(auto, unfolding(rules::specs::Tokens::stops))]
 fn stops_at(src: &[u8], i: usize) -> bool
     requires { i ≤ length src.now }
     ensures { result ≡ stops (drop i src.now) }
 {
-    if i == src.len() {
-        return true;
-    }
-    if is_blank(src[i]) {
-        return true;
-    }
-    opens_at(src, i)
+    i == src.len() || is_blank(src[i]) || opens_at(src, i)
 }
 
 // Where the comment that is open at `at` ends: past its LF, or the length.
+#[tactic(auto, using(crate::proofs::Scan::inside_end, crate::proofs::Scan::inside_lf, crate::proofs::Scan::inside_more, crate::proofs::Scan::from_end))]
 fn comment_end(src: &[u8], at: usize) -> usize
     requires { at ≤ length src.now }
     ensures { Closed src.now at result }
 {
-    let mut i = at;
-    while i < src.len() {
+    for i in at..src.len() {
         if src[i] == b'\n' {
             return i + 1;
         }
-        i += 1;
     }
-    i
+    src.len()
 }
 
 // Where the next token starts, or the length.
+#[tactic(auto, using(crate::proofs::Scan::stops_other, crate::proofs::Scan::from_blank, crate::proofs::Scan::from_comment))]
 fn skip(src: &[u8], at: usize) -> usize
     requires { at ≤ length src.now }
     ensures { Skipped src.now at result }
 {
     let mut i = at;
+    // Stays: a `for` would be no plainer, since a comment is jumped over.
     while i < src.len() {
         if is_blank(src[i]) {
             i += 1;
@@ -91,32 +74,31 @@ fn skip(src: &[u8], at: usize) -> usize
     i
 }
 
-// Where the token that starts at `at` ends.
+// Where the token that starts at `at` ends: past a colon, or where no byte of a token stands.
 fn token_end(src: &[u8], at: usize) -> usize
     requires { (at < length src.now) × (stops (drop at src.now) ≡ false) }
     ensures { Ended src.now at result }
 {
-    let mut i = at;
-    while src[i] != b':' {
-        i += 1;
-        if stops_at(src, i) {
+    for i in at + 1..src.len() {
+        if src[i - 1] == b':' || stops_at(src, i) {
             return i;
         }
     }
-    i + 1
+    src.len()
 }
 
 // The first token of the source from the place `at` on.
-pub fn next_token(src: &[u8], at: usize) -> Next
+#[tactic(auto, using(crate::proofs::Scan::from_end))]
+pub fn next_token(src: &[u8], at: usize) -> Option<Token>
     ensures { NextIs src.now at result }
 {
     if at >= src.len() {
-        return Next::Done;
+        return None;
     }
     let start = skip(src, at);
     if start == src.len() {
-        return Next::Done;
+        return None;
     }
     let end = token_end(src, start);
-    Next::Found(start, end)
+    Some(Token { start, end })
 }

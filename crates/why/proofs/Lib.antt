@@ -1,3 +1,3 @@
--- Laws of a look down the places, for the proofs of its functions.
+-- Laws of a look down the places, and of what it leans on.
 pub mod Looking
-pub mod Answers
+pub mod Readable

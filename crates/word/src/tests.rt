@@ -23,9 +23,7 @@ pub fn holds(b: u32) -> bool
 pub(crate) fn below(b: u32, t: u32) -> bool
     ensures { result ≡ less b t }
 {
-    let x = signed(b);
-    let y = signed(t);
-    x < y
+    signed(b) < signed(t)
 }
 
 // LESS: Vb < Vt.
@@ -46,13 +44,11 @@ pub fn greater(b: u32, t: u32) -> u32
 pub fn sense(less: bool, greater: bool) -> u32
     ensures { result ≡ sense less greater }
 {
-    if less {
-        return 1;
+    match (less, greater) {
+        (true, _) => 1,
+        (false, true) => words::MINUS_ONE,
+        (false, false) => 0,
     }
-    if greater {
-        return words::MINUS_ONE;
-    }
-    0
 }
 
 // CMP: how the numbers of b and t are ordered.

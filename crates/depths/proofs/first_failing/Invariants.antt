@@ -1,13 +1,10 @@
--- The loop's invariant: the first that fails is among those that are left. Assumes nothing.
-use Prim.Native.Nat.{◌-◌, ◌≤◌}
+-- The loop's invariant: each place before this one passes. Assumes nothing.
+use Prim.Native.Nat.{ℕ, ◌<◌}
 use mathlib.Core.Path.{◌≡◌}
-use Rattle.rules.specs.Table.{program}
-use Rattle.rules.specs.DepthList.{rule, first_failing}
+use mathlib.Core.Bool.{true}
+use Rattle.program.specs.Lent.{program_of}
+use Rattle.rules.specs.DepthList.{rule}
 use Rattle.depths.proofs.first_failing.Given as goal
 
 abbrev pub invariant-loop-place : goal.invariant-loop-place
-invariant-loop-place l =
-    (l.place ≤ l.count) × (first_failing (rule (program l.table l.count) l.n l.depths) l.count 0 ≡ first_failing (rule (program l.table l.count) l.n l.depths) (l.count - l.place) l.place)
-
-abbrev pub decreases-loop-place : goal.decreases-loop-place
-decreases-loop-place l = l.count - l.place
+invariant-loop-place l = (k : ℕ) → k < l.place → rule (program_of l.p) l.n l.depths k ≡ true

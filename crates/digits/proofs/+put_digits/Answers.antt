@@ -4,6 +4,7 @@ use mathlib.Core.Path.{◌≡◌, ◌∙◌}
 use mathlib.Core.List.{[], ◌∷◌}
 use native.Mathlib.Omega.{arith}
 use lib.ListN.{length, length-append}
+use Rattle.std.proofs.Common.{⊎_elim}
 use Rattle.rules.specs.Listing.{decimal}
 use Rattle.rules.proofs.Texts as texts
 use Rattle.digits.proofs.Laws as law
@@ -11,23 +12,20 @@ use Rattle.digits.proofs.+put_digits.Goals as goal
 
 pub returns-then-k-eq0 : goal.returns-then-k-eq0
 returns-then-k-eq0 t c =
-    let e = texts.decimal_zero c.args.k c.args.n c.if-k-eq0.true in
+    let a = c.args in
+    let e : decimal a.k a.n ≡ texts.last_digit a.n =
+    ⊎_elim (λ z. texts.decimal_zero a.k a.n z) (λ w. texts.decimal_small a.k a.n (omega (arith, w.1))) c.then-k-eq0.either in
     (rw e, rw e c.put_byte.ensures)
-
-pub returns-then-n-lt-DECIMAL : goal.returns-then-n-lt-DECIMAL
-returns-then-n-lt-DECIMAL t c =
-    let e = texts.decimal_small c.args.k c.args.n (omega arith) in
-    (rw e, rw e c.put_byte-then-n-lt-DECIMAL.ensures)
 
 pub overflow_add-result-2 : goal.overflow_add-result-2
 overflow_add-result-2 t c =
     let a = c.args in
-    omega (arith, c.put_digits-p.ensures.0, texts.length_decimal (a.k - 1) (a.n / 10), c.requires.1)
+    omega (arith, c.put_digits-before.ensures.0, texts.length_decimal (a.k - 1) (a.n / 10), c.requires.1)
 
 pub returns : goal.returns
 returns t c =
     let a = c.args in
-    let d = c.put_digits-p.ensures in
+    let d = c.put_digits-before.ensures in
     let e = texts.decimal_more a.k a.n (omega arith) (omega arith) in
     let q : a.at + (a.i + length (decimal (a.k - 1) (a.n / 10))) ≡ a.at + a.i + length (decimal (a.k - 1) (a.n / 10)) = omega arith in (
       rw (e, length-append) (omega arith),

@@ -7,5 +7,5 @@ use Rattle.digits.proofs.hex_byte.Goals as goal
 pub returns-then-digit-lt10 : goal.returns-then-digit-lt10
 returns-then-digit-lt10 c = sym (texts.hex_low c.args.digit c.if-digit-lt10.true)
 
-pub returns : goal.returns
-returns c = omega (arith, texts.hex_high c.args.digit c.if-digit-lt10.false)
+pub returns-else-digit-lt10 : goal.returns-else-digit-lt10
+returns-else-digit-lt10 c = omega (arith, texts.hex_high c.args.digit c.if-digit-lt10.false)

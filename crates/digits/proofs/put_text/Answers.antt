@@ -8,4 +8,4 @@ loop-i-preserved c =
     let a = c.args in
     let v = c.loop-i.invariant in
     let i = c.loop-i.i in
-    (omega arith, c.put_byte.auto.out ∙ v.1, c.put_byte.ensures ∙ rw v.2 (put_more a.out.now a.text.now a.at i (omega arith)))
+    c.put_byte.ensures ∙ rw v (put_more a.out.now a.text.now a.at i (omega arith))

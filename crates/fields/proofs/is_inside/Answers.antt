@@ -7,8 +7,8 @@ use Rattle.rules.proofs.Fields.{bits_of_length}
 use Rattle.rules.proofs.Tests.{and_then}
 use Rattle.fields.proofs.is_inside.Goals as goal
 
-pub returns : goal.returns
-returns c =
+pub returns-then-width-le-WIDEST : goal.returns-then-width-le-WIDEST
+returns-then-width-le-WIDEST c =
     let a = c.args in
-    sym (and_then (le-leb a.width 64 c.if-width-gt-WIDEST.false)
+    sym (and_then (le-leb a.width 64 c.if-width-le-WIDEST.true)
     (ap (leb (a.at + a.width)) (bits_of_length a.image.now) ∙ sym c.has_bits.ensures))

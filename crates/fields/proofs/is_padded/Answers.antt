@@ -1,6 +1,7 @@
 -- What is left is the bits to the next byte, or nothing. Assumes nothing.
 use Prim.Native.Nat.{ℕ, ◌+◌, ◌-◌, ◌*◌, ◌%◌, ◌≤◌, ◌<◌}
 use mathlib.Core.Path.{◌≡◌, refl, sym, ap, ◌∙◌}
+use mathlib.Core.Bool.{not}
 use mathlib.Core.List.{List}
 use native.Mathlib.Omega.{arith}
 use borrow.Author.Tests.{leb-true, leb-false}
@@ -25,16 +26,16 @@ rest_read xs at w e h =
     (λ f. let g : length l < at + w = leb-false _ _ f in
     read_outside l at w g ∙ sym (ap value (drop_of_length-le l {i = at} (omega (arith, bits_of_length xs)))))
 
-pub returns-then-has_bits : goal.returns-then-has_bits
-returns-then-has_bits c =
+pub returns-else-not-has_bits : goal.returns-else-not-has_bits
+returns-else-not-has_bits c =
     let a = c.args in
-    let h : a.at + ((8 - a.at % 8) % 8 + 1) ≤ length a.image.now * 8 = leb-true _ _ (sym c.has_bits.ensures ∙ c.if-has_bits.true) in
-    sym (padded_long _ (omega (arith, rest_length a.image.now a.at)))
+    let h : a.at + ((8 - a.at % 8) % 8 + 1) ≤ length a.image.now * 8 = leb-true _ _ (sym c.has_bits.ensures ∙ c.if-not-has_bits.false) in
+    ap not c.if-not-has_bits.false ∙ sym (padded_long _ (omega (arith, rest_length a.image.now a.at)))
 
-pub returns : goal.returns
-returns c =
+pub returns-then-not-has_bits : goal.returns-then-not-has_bits
+returns-then-not-has_bits c =
     let a = c.args in
     let l : List ℕ = drop a.at (bits_of a.image.now) in
-    let h : length a.image.now * 8 < a.at + ((8 - a.at % 8) % 8 + 1) = leb-false _ _ (sym c.has_bits.ensures ∙ c.if-has_bits.false) in
+    let h : length a.image.now * 8 < a.at + ((8 - a.at % 8) % 8 + 1) = leb-false _ _ (sym c.has_bits.ensures ∙ c.if-not-has_bits.true) in
     ap (λ (n : ℕ). eqb n 0) (c.get.ensures ∙ rest_read a.image.now a.at _ refl h)
     ∙ sym (padded_short l (omega (arith, rest_length a.image.now a.at)))

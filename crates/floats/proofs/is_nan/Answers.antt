@@ -1,5 +1,5 @@
 -- `floats::is_nan` meets its contract. Assumes nothing.
-use Rattle.std.proofs.Common.{◌≡◌, ℕ, ◌+◌, ◌*◌, ◌/◌, ◌%◌, ◌^◌, ltb, sym, ◌∙◌, arith, ltb-false, ltb-true, le-ltb, lt-ltb}
+use Rattle.std.proofs.Common.{◌≡◌, ℕ, ◌+◌, ◌*◌, ◌/◌, ◌%◌, ◌^◌, ltb, sym, ◌∙◌, refl, arith, ltb-false, ltb-true, le-ltb, lt-ltb}
 use lib.Arith.{mod-mul}
 use lib.Ieee.{binary32}
 use lib.Ieee.Bits.{nan_bits_is, nan_bits_above}
@@ -21,4 +21,4 @@ above b {d} e =
 pub returns : goal.returns
 returns c =
     let b = c.args.b in
-    above b c.wrapping_add_u32.ensures.value ∙ sym (nan_bits_above binary32 b) ∙ nan_bits_is binary32 b
+    above b refl ∙ sym (nan_bits_above binary32 b) ∙ nan_bits_is binary32 b

@@ -1,20 +1,46 @@
 -- Each answer by its law. Assumes nothing.
-use mathlib.Core.Path.{sym, ap, ◌∙◌}
-use Rattle.rules.specs.Image.{Filed}
+use Rattle.std.proofs.Common.{◌≡◌, ◌∙◌, ℕ, true, false, List, OnOk, is_err, length, replicate, sym}
+use Rattle.rules.specs.Sizes.{max_program}
+use Rattle.rules.specs.Image.{Unpacking, places, unfit, filed}
+use Rattle.rules.specs.Answers.{Packed}
+use Rattle.rules.proofs.Outputs.{blanked_right}
 use Rattle.rules.proofs.Unpacking.{unpack_length, unpack_filed}
 use Rattle.image.proofs.unpack.Goals as goal
 
+-- a refusal, and the table cleared once more; or the places of a table that was cleared before
+refused : (t z : List ℕ) (u : Unpacking) (r : Packed) → length t ≡ max_program → r ≡ (filed z u).answer → is_err r ≡ true
+    → (r ≡ (filed t u).answer) × (replicate max_program 0 ≡ (filed t u).output)
+refused t z (places ps) r l e h = let no = rw e at h in cc
+refused t z (unfit k) r l e h = (e, sym (blanked_right max_program t l))
+
+taken : (t z x : List ℕ) (u : Unpacking) (r : Packed) → r ≡ (filed z u).answer → is_err r ≡ false → OnOk r (x ≡ (filed z u).output)
+    → (r ≡ (filed t u).answer) × (x ≡ (filed t u).output)
+taken t z x (places ps) r e h o = (e, rw e at o)
+taken t z x (unfit k) r e h o = let no = rw e at h in cc
+
 pub returns-then-table-ne-MAX_PROGRAM : goal.returns-then-table-ne-MAX_PROGRAM
 returns-then-table-ne-MAX_PROGRAM c =
-    let a = c.args in
-    let e = unpack_length a.image.now a.table.now c.if-table-ne-MAX_PROGRAM.true in
-    record { answer = sym (ap (λ (f : Filed). f.answer) e); output = sym (ap (λ (f : Filed). f.output) e) }
+    let e = unpack_length c.args.image.now c.args.table.now c.if-table-ne-MAX_PROGRAM.true in
+    record { answer = rw e; output = rw e }
 
-pub returns : goal.returns
-returns c =
+pub read_image-answer-requires : goal.read_image-answer-requires
+read_image-answer-requires c = c.fill.ensures.after (λ y e. e) ∙ rw c.if-table-ne-MAX_PROGRAM.false
+
+pub returns-then-is_err : goal.returns-then-is_err
+returns-then-is_err c =
+    let a = c.args in
+    let l = c.if-table-ne-MAX_PROGRAM.false in
+    let e = unpack_filed a.image.now a.table.now l in
+    let r = refused a.table.now c.fill.new.self _ _ l c.read_image-answer.ensures.answer (sym c.if-is_err.ensures.value) in
+    let long : length c.read_image-answer.new.table ≡ max_program = c.read_image-answer.auto.table ∙ c.fill.ensures.len ∙ l in
+    record {
+      answer = r.0 ∙ rw e;
+      output = c.fill-then-is_err.ensures.after (λ y e. e) ∙ rw (long, e) r.1;
+    }
+
+pub returns-else-is_err : goal.returns-else-is_err
+returns-else-is_err c =
     let a = c.args in
     let e = unpack_filed a.image.now a.table.now c.if-table-ne-MAX_PROGRAM.false in
-    record {
-      answer = c.read_image.ensures.answer ∙ sym (ap (λ (f : Filed). f.answer) e);
-      output = c.read_image.ensures.output ∙ sym (ap (λ (f : Filed). f.output) e);
-    }
+    let r = taken a.table.now c.fill.new.self _ _ _ c.read_image-answer.ensures.answer (sym c.if-is_err.ensures.value) c.read_image-answer.ensures.output in
+    record { answer = r.0 ∙ rw e; output = r.1 ∙ rw e }

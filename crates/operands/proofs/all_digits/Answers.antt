@@ -1,22 +1,13 @@
-use Rattle.operands.proofs.Laws as law
-use mathlib.Core.Path.{sym, ◌∙◌}
-use native.Mathlib.Omega.{arith}
+-- A chain answers the test of each digit. Assumes nothing.
+use lib.Dec.{ltb}
+use Rattle.std.proofs.Common.{rules, tests, ◌∙◌}
+use Rattle.std.proofs.lemmas.Iterator.{YieldsList-from_slice}
+use Rattle.std.proofs.lemmas.Iterator.Search.{all_from_yields_List}
+use Rattle.rules.specs.Operands.{digit_of}
+use Rattle.operands.proofs.Laws.{all_is}
 use Rattle.operands.proofs.all_digits.Goals as goal
 
-pub returns-then-digit_of-base : goal.returns-then-digit_of-base
-returns-then-digit_of-base c = let s = c.args.ds.now in
-    let i = c.loop-i.i in
-    let v = c.loop-i.invariant in
-    sym (v.1 ∙ law.all_no s i c.args.base (omega arith) (rw c.digit_of.ensures.0 at c.if-digit_of-base.true))
-
-pub loop-i-preserved : goal.loop-i-preserved
-loop-i-preserved c = let s = c.args.ds.now in
-    let i = c.loop-i.i in
-    let v = c.loop-i.invariant in
-    (omega arith, v.1 ∙ law.all_more s i c.args.base (omega arith) (rw c.digit_of.ensures.0 at c.if-digit_of-base.false))
-
 pub returns : goal.returns
-returns c = let s = c.args.ds.now in
-    let i = c.loop-i.i in
-    let v = c.loop-i.invariant in
-    sym (v.1 ∙ law.all_end s i c.args.base (omega arith))
+returns c =
+    all_from_yields_List (λ b. ltb (digit_of b) c.args.base) _ _ _ c.all.ensures.ran (YieldsList-from_slice _ c.iter.ensures.rest) (λ x b q k. search (rules, tests))
+    ∙ all_is c.args.base _

@@ -1,6 +1,6 @@
--- The name that is being read began before the byte that is looked at.
-use Rattle.std.proofs.Common.{◌≤◌}
+-- Each program is behind the one before it, so what is left gets shorter.
+use Rattle.std.proofs.Common.{length}
 use Rattle.teaching.proofs.programs.Given as goal
 
-abbrev pub invariant-loop-i : goal.invariant-loop-i
-invariant-loop-i g l = l.name ≤ l.i
+abbrev pub decreases-loop-mark : goal.decreases-loop-mark
+decreases-loop-mark g l = length l.rest

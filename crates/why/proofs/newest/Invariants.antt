@@ -1,9 +1,7 @@
 -- `why::newest` meets its contract. The loop's invariant: the places left tell what all do. Assumes nothing.
+use Rattle.std.specs.Slice.Iter.{iter_rest}
 use Rattle.why.proofs.Looking.{Looking}
 use Rattle.why.proofs.newest.Given as goal
 
-abbrev pub invariant-loop-left : goal.invariant-loop-left
-invariant-loop-left l = Looking l.table l.history l.used l.cell l.left l.back l.step
-
-abbrev pub decreases-loop-left : goal.decreases-loop-left
-decreases-loop-left l = l.left
+abbrev pub invariant-loop-place : goal.invariant-loop-place
+invariant-loop-place l = Looking l.table l.history l.used l.cell (iter_rest l.place-iterator.iter) l.back l.step

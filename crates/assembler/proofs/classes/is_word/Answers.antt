@@ -1,30 +1,26 @@
--- The goals of `assembler::classes::is_word`, answered. Assumes nothing.
-use mathlib.Core.Path.{sym, ◌∙◌}
-use native.Mathlib.Omega.{arith}
+-- `assembler::classes::is_word` meets its contract. Assumes nothing.
+use Rattle.std.proofs.Common.{◌≡◌, drop, sym, ◌∙◌, rules, tests}
+use Rattle.std.specs.List.{list_all}
+use Rattle.std.proofs.lemmas.List.{take_rest}
+use Rattle.std.proofs.lemmas.Iterator.{YieldsList-from_slice}
+use Rattle.std.proofs.lemmas.Iterator.Search.{all_from_yields_List}
+use Rattle.rules.specs.Bytes.{letter, word_byte}
 use Rattle.rules.proofs.Judging.{no_word}
-use Rattle.assembler.proofs.Bytes as law
+use Rattle.assembler.proofs.Bytes.{word_none, word_yes}
 use Rattle.assembler.proofs.classes.is_word.Goals as goal
 
-pub returns-then-t-eq0 : goal.returns-then-t-eq0
-returns-then-t-eq0 c = sym (law.is_empty c.args.t.now c.if-t-eq0.true)
+pub returns-in-empty : goal.returns-in-empty
+returns-in-empty c = sym (word_none c.args.t.now c.in-empty.len_below)
 
-pub loop-i-preserved : goal.loop-i-preserved
-loop-i-preserved c = let t = c.args.t.now in
-    let i = c.loop-i.i in
-    let v = c.loop-i.invariant in
-    (omega arith, v.1 ∙ law.all_more t i (omega arith) (sym c.is_word_byte.ensures ∙ c.if-is_word_byte.true))
+pub returns-then-is_ascii_alphabetic : goal.returns-then-is_ascii_alphabetic
+unfolding letter
+returns-then-is_ascii_alphabetic c =
+    let t = c.args.t.now in
+    let e : c.all.result ≡ list_all word_byte (drop 1 t) =
+    all_from_yields_List word_byte _ _ _ c.all.ensures.ran (YieldsList-from_slice (drop 1 t) (cc (take_rest t 1))) (λ x b q k. search (rules, tests)) in
+    e ∙ sym (word_yes t c.in-len1-up.len_at_least (sym c.is_ascii_alphabetic.ensures.value ∙ c.if-is_ascii_alphabetic.true))
 
-pub returns-else-is_word_byte : goal.returns-else-is_word_byte
-returns-else-is_word_byte c = let t = c.args.t.now in
-    let i = c.loop-i.i in
-    let v = c.loop-i.invariant in
-    sym (law.is_yes t (omega arith) (sym c.is_letter.ensures ∙ c.if-is_letter.true) ∙ v.1 ∙ law.all_no t i (omega arith) (sym c.is_word_byte.ensures ∙ c.if-is_word_byte.false))
-
-pub returns-then-is_letter : goal.returns-then-is_letter
-returns-then-is_letter c = let t = c.args.t.now in
-    let i = c.loop-i.i in
-    let v = c.loop-i.invariant in
-    sym (law.is_yes t (omega arith) (sym c.is_letter.ensures ∙ c.if-is_letter.true) ∙ v.1 ∙ law.all_end t i (omega arith))
-
-pub returns : goal.returns
-returns c = sym (no_word c.args.t.now (sym c.is_letter.ensures ∙ c.if-is_letter.false))
+pub returns-else-is_ascii_alphabetic : goal.returns-else-is_ascii_alphabetic
+unfolding letter
+returns-else-is_ascii_alphabetic c =
+    c.if-is_ascii_alphabetic.false ∙ sym (no_word c.args.t.now (sym c.is_ascii_alphabetic.ensures.value ∙ c.if-is_ascii_alphabetic.false))

@@ -1,20 +1,17 @@
 -- `assembler::operand::name_word` meets its contract. Assumes nothing.
-use mathlib.Core.Path.{sym, ◌∙◌, ap}
-use native.Mathlib.Omega.{arith}
-use Rattle.rules.specs.Assemble.{item}
-use Rattle.assembler.specs.Held.{piece}
-use Rattle.assembler.proofs.Labels as lab
-use Rattle.assembler.proofs.Steps as st
-use Rattle.assembler.proofs.Keep as keep
+use Rattle.std.proofs.Common.{length, refl}
+use Rattle.std.proofs.lemmas.Bool.{le-leb, lt-leb}
+use Rattle.rules.specs.Sizes.{max_label}
+use Rattle.rules.specs.Assemble.{target_label}
+use Rattle.assembler.proofs.Items.{item_label}
 use Rattle.assembler.proofs.operand.name_word.Goals as goal
 
-pub returns-then-len-le-MAX_LABEL : goal.returns-then-len-le-MAX_LABEL
-returns-then-len-le-MAX_LABEL c = λ src h.
-    let a = c.args in
-    st.target_short a.code a.at (piece src a.at a.len) (rw (keep.length_piece src a.at a.len h) (omega arith))
-    ∙ ap item (sym (lab.item_label src a.at a.code a.len (omega arith) (omega arith) (omega arith)))
+pub returns-then-name-gt-MAX_LABEL : goal.returns-then-name-gt-MAX_LABEL
+unfolding target_label
+returns-then-name-gt-MAX_LABEL c = λ source e. rw (lt-leb (length c.args.name.now) max_label c.if-name-gt-MAX_LABEL.true)
 
 pub returns : goal.returns
-returns c = λ src h.
+unfolding target_label
+returns c = λ source e.
     let a = c.args in
-    st.target_long a.code a.at (piece src a.at a.len) (rw (keep.length_piece src a.at a.len h) (omega arith))
+    rw (le-leb (length a.name.now) max_label c.if-name-gt-MAX_LABEL.false, item_label source _ _ _ _ _ c.word_of.ensures refl, e)

@@ -1,14 +1,11 @@
 -- `assembler::operand::plain_word` meets its contract. Assumes nothing.
-use mathlib.Core.Path.{sym, ◌∙◌, ap}
-use native.Mathlib.Omega.{arith}
-use Rattle.rules.specs.Assemble.{item, plain_number}
-use Rattle.assembler.proofs.Labels.{item_word}
-use Rattle.assembler.proofs.Labels as lab
+use Rattle.std.proofs.Common.{refl, sym, ap, ◌∙◌}
+use Rattle.rules.specs.Assemble.{plain_number, item}
+use Rattle.assembler.proofs.Items.{item_finished}
 use Rattle.assembler.proofs.operand.plain_word.Goals as goal
 
-pub returns-in-Value : goal.returns-in-Value
-returns-in-Value c = λ src.
+pub returns-in-Ok : goal.returns-in-Ok
+returns-in-Ok c = λ source.
     let a = c.args in
-    let x = c.in-Value.x in
-    ap (plain_number a.code) c.in-Value.is
-    ∙ ap item (sym (lab.item_word src 0 a.code x (omega arith) (omega arith) (omega arith)))
+    ap (plain_number a.code) c.in-Ok.is
+    ∙ ap item (sym (item_finished source _ _ _ _ _ c.word_of.ensures refl refl))

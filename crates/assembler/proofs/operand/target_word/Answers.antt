@@ -1,19 +1,17 @@
 -- `assembler::operand::target_word` meets its contract. Assumes nothing.
-use mathlib.Core.Path.{sym, ◌∙◌, ap}
-use native.Mathlib.Omega.{arith}
-use Rattle.rules.specs.Assemble.{item, target_number}
-use Rattle.assembler.proofs.Labels as lab
+use Rattle.std.proofs.Common.{◌≡◌, refl, sym, ap, ◌∙◌, rules}
+use Rattle.rules.specs.Assemble.{target_number, item, beyond}
+use Rattle.assembler.proofs.Items.{item_number, item_beyond}
 use Rattle.assembler.proofs.operand.target_word.Goals as goal
 
-pub returns-in-Value : goal.returns-in-Value
-returns-in-Value c = λ src.
+pub returns-in-Ok : goal.returns-in-Ok
+returns-in-Ok c = λ source.
     let a = c.args in
-    let x = c.in-Value.x in
-    ap (target_number a.code a.at) c.in-Value.is
-    ∙ ap item (sym (lab.item_number src a.at a.code x (omega arith) (omega arith) (omega arith)))
+    ap (target_number a.code a.start) c.in-Ok.is
+    ∙ ap item (sym (item_number source _ _ _ _ _ c.word_of.ensures refl))
 
-pub returns-in-OutOfRange : goal.returns-in-OutOfRange
-returns-in-OutOfRange c = λ src.
+pub returns-in-Err-OutOfRange : goal.returns-in-Err-OutOfRange
+returns-in-Err-OutOfRange c = λ source.
     let a = c.args in
-    ap (target_number a.code a.at) c.in-OutOfRange.is
-    ∙ ap item (sym (lab.item_beyond src a.at a.code 0 (omega arith) (omega arith) (omega arith)))
+    let e : target_number a.code a.start a.number ≡ item (beyond a.start) = search rules in
+    e ∙ ap item (sym (item_beyond source _ _ _ _ _ c.word_of-in-Err-OutOfRange.ensures refl))

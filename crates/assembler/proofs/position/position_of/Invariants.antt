@@ -1,12 +1,11 @@
--- `assembler::position::position_of` meets its contract. Invariant: line and start are those of the bytes before `i`. Assumes nothing.
-use Prim.Native.Nat.{◌+◌, ◌-◌, ◌≤◌}
-use mathlib.Core.Path.{◌≡◌}
-use lib.ListN.{length, take}
+-- `assembler::position::position_of` meets its contract. Invariant: line and column are those of the bytes so far. Assumes nothing.
+use Rattle.std.proofs.Common.{◌≡◌, ◌+◌, ◌≤◌, length, take}
 use Rattle.rules.specs.Positions.{line_feeds, since_lf}
 use Rattle.assembler.proofs.position.position_of.Given as goal
 
-abbrev pub invariant-loop-i : goal.invariant-loop-i
-invariant-loop-i l = (l.i ≤ l.place) × (l.i ≤ length l.source) × (l.line ≡ line_feeds (take l.i l.source) + 1) × (l.start + length (since_lf (take l.i l.source)) ≡ l.i) × (l.line ≤ l.i + 1)
-
-abbrev pub decreases-loop-i : goal.decreases-loop-i
-decreases-loop-i l = length l.source - l.i
+abbrev pub invariant-loop-b : goal.invariant-loop-b
+invariant-loop-b l =
+    (l.line ≡ line_feeds (take l.b-index l.before) + 1)
+    × (l.column ≡ length (since_lf (take l.b-index l.before)) + 1)
+    × (l.line ≤ l.b-index + 1)
+    × (l.column ≤ l.b-index + 1)

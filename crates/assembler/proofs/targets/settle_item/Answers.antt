@@ -1,56 +1,29 @@
 -- `assembler::targets::settle_item` meets its contract. Assumes nothing.
-use mathlib.Core.Path.{sym, ◌∙◌, ap}
-use Rattle.rules.specs.Assemble.{lookup}
-use Rattle.assembler.specs.Held.{labels_of}
+use Rattle.std.proofs.Common.{◌≡◌, ◌/◌, ◌%◌, ◌^◌, arith, rules}
+use Rattle.rules.specs.declared.TextRefusal.TheVariants.{OperandRange, LabelUnknown}
 use Rattle.assembler.proofs.Settle as settled
 use Rattle.assembler.proofs.targets.settle_item.Goals as goal
+use Rattle.assembler.proofs.targets.settle_item.Goals.{in_default-via-in-1+else-low-n, in_default-via-in_default-1}
 
-pub returns-then-kind-eq-FINISHED : goal.returns-then-kind-eq-FINISHED
-returns-then-kind-eq-FINISHED c =
-    λ is.
-    let a = c.args in
-    let s = a.src.now in
-    let ls = labels_of s a.labels.now a.m in
-    settled.settle_word s a.n ls a.w is c.if-kind-eq-FINISHED.true
+pub returns-in-0 : goal.returns-in-0
+returns-in-0 c = λ is. settled.settle_word _ _ _ _ is c.in-0.is
 
-pub returns-then-low-n : goal.returns-then-low-n
-returns-then-low-n c =
-    λ is.
-    let a = c.args in
-    let s = a.src.now in
-    let ls = labels_of s a.labels.now a.m in
-    settled.settle_number s a.n ls a.w is c.if-kind-eq-NUMBERED.true c.if-low-n.true
+pub returns-in-1 : goal.returns-in-1
+returns-in-1 c = λ is. settled.settle_number _ _ _ _ is c.in-1.is c.if-low-n.true
 
-pub returns-then-kind-eq-NUMBERED : goal.returns-then-kind-eq-NUMBERED
-returns-then-kind-eq-NUMBERED c =
-    λ is.
-    let a = c.args in
-    let s = a.src.now in
-    let ls = labels_of s a.labels.now a.m in
-    settled.settle_high s a.n ls a.w is c.if-kind-eq-NUMBERED.true c.if-low-n.false
+pub returns-in-Some : goal.returns-in-Some
+returns-in-Some c = λ is. rw c.from.ensures (settled.settle_labelled _ _ _ _ is c.in-2.is _ _ c.piece_of-name.ensures c.in-Some.ensures)
 
-pub returns-then-kind-ne-LABELLED : goal.returns-then-kind-ne-LABELLED
-returns-then-kind-ne-LABELLED c =
-    λ is.
-    let a = c.args in
-    let s = a.src.now in
-    let ls = labels_of s a.labels.now a.m in
-    settled.settle_beyond s a.n ls a.w is c.if-kind-eq-FINISHED.false c.if-kind-eq-NUMBERED.false c.if-kind-ne-LABELLED.true
+pub returns-in-None : goal.returns-in-None
+returns-in-None c = λ is.
+    let r : c.stop.result ≡ record { refusal = LabelUnknown; place = c.args.item / 2 ^ 40 % 2 ^ 20 } = search rules in
+    rw r (settled.settle_labelled _ _ _ _ is c.in-2.is _ _ c.piece_of-name.ensures c.in-None.ensures)
 
-pub returns-in-At : goal.returns-in-At
-returns-in-At c =
-    λ is.
-    let a = c.args in
-    let s = a.src.now in
-    let ls = labels_of s a.labels.now a.m in
-    let e = ap (lookup ls) (sym c.piece_of.ensures) ∙ (rw c.in-At.is at c.find_label-sought.ensures).0 in
-    settled.settle_label_lem s a.n ls a.w is c.if-kind-ne-LABELLED.false c.in-At.address e
-
-pub returns-in-Nowhere : goal.returns-in-Nowhere
-returns-in-Nowhere c =
-    λ is.
-    let a = c.args in
-    let s = a.src.now in
-    let ls = labels_of s a.labels.now a.m in
-    let e = ap (lookup ls) (sym c.piece_of.ensures) ∙ (rw c.in-Nowhere.is at c.find_label-sought.ensures) in
-    settled.settle_unknown s a.n ls a.w is c.if-kind-ne-LABELLED.false e
+pub returns-in_default : goal.returns-in_default
+returns-in_default c = λ is.
+    let r : c.stop-in_default.result ≡ record { refusal = OperandRange; place = c.args.item / 2 ^ 40 % 2 ^ 20 } = search rules in
+    rw r
+    elim c.in_default.branch [
+      | in_default-via-in-1+else-low-n w ↦ settled.settle_high _ _ _ _ is w.in-1.is w.if-low-n.false
+      | in_default-via-in_default-1 w ↦ settled.settle_beyond _ _ _ _ is (λ e. omega arith) (λ e. omega arith) (λ e. omega arith)
+    ]

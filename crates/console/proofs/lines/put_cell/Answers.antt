@@ -9,5 +9,5 @@ use Rattle.console.proofs.lines.put_cell.Goals as goal
 pub returns : goal.returns
 returns c =
     let made = c.put_cell_line-n in
-    let h : length (cell_line c.args.i (record { bits = c.args.bits; tag = c.args.tag })) ≤ 64 = omega (arith, made.ensures.0.length_told, made.ensures.1) in
+    let h : length (cell_line c.args.i c.args.cell) ≤ 64 = omega (arith, made.ensures.0.length_told, made.ensures.1) in
     rw (law.whole 64 _ _ _ h made.ensures.0) at c.put_text.ensures

@@ -7,7 +7,7 @@ use Rattle.console.proofs.lines.put_refused.Goals as goal
 pub returns : goal.returns
 unfolding text
 returns c =
-    let named = c.put_named-a.ensures.0 in
+    let named = rw c.number.ensures at c.put_named-a.ensures.0 in
     let place = c.put_number.ensures.0 in
     let line = c.put_number-2.ensures.0 in
     let column = c.put_number-3.ensures.0 in

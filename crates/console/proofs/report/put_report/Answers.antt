@@ -22,5 +22,5 @@ returns c =
     let out = c.put_out.ensures in
     let cells = c.put_cells.ensures.0 in
     let registers = c.put_registers.ensures.0 in
-    let ending = rw c.ending_number-number.ensures at c.put_ending-a.ensures.0 in
+    let ending = rw c.number.ensures at c.put_ending-a.ensures.0 in
     rw law.report_parts (put_next (put_next (put_next ending registers) cells) out)

@@ -6,12 +6,6 @@ use Rattle.rules.proofs.Texts.{length_hex}
 use Rattle.digits.proofs.Laws.{put_front, put_last}
 use Rattle.console.proofs.values.put_pattern.Goals as goal
 
-pub overflow_add-n : goal.overflow_add-n
-overflow_add-n c = omega (arith, c.put_hex-n.ensures.length_told, length_hex 8 c.args.bits)
-
-pub overflow_add-result : goal.overflow_add-result
-overflow_add-result c = omega (arith, c.put_hex-n.ensures.length_told, length_hex 8 c.args.bits)
-
 pub returns : goal.returns
 returns c =
     let e : c.put_hex-n.result + 2 ≡ c.put_hex-n.result + 1 + 1 = omega arith in (

@@ -4,9 +4,6 @@ use Rattle.rules.proofs.Texts.{length_signed}
 use Rattle.digits.proofs.Laws.{put_last}
 use Rattle.console.proofs.values.put_signed.Goals as goal
 
-pub overflow_add-result : goal.overflow_add-result
-overflow_add-result c = omega (arith, c.put_signed-n.ensures.length_told, length_signed c.args.bits)
-
 pub returns : goal.returns
 returns c = (
   put_last _ c.put_signed-n.ensures c.put_byte.ensures,

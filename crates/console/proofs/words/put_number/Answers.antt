@@ -4,9 +4,6 @@ use Rattle.rules.proofs.Texts.{length_decimal}
 use Rattle.digits.proofs.Laws.{put_last}
 use Rattle.console.proofs.words.put_number.Goals as goal
 
-pub overflow_add-result : goal.overflow_add-result
-overflow_add-result c = omega (arith, c.put_decimal-k.ensures.length_told, length_decimal 9 c.args.n)
-
 pub returns : goal.returns
 returns c = (
   put_last _ c.put_decimal-k.ensures c.put_byte.ensures,

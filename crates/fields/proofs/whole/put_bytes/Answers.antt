@@ -1,10 +1,10 @@
 -- From byte i on, the low bits of v are written. Assumes nothing.
 use Prim.Native.Nat.{ℕ, ◌+◌, ◌-◌, ◌*◌, ◌/◌, ◌%◌, ◌^◌}
-use mathlib.Core.Path.{◌≡◌, refl, sym, ap, ◌∙◌}
+use mathlib.Core.Path.{◌≡◌, sym, ap, ◌∙◌}
 use mathlib.Core.List.{List}
 use native.Mathlib.Nat.{div-one}
 use native.Mathlib.Omega.{arith}
-use lib.ListN.{set, length-set}
+use lib.ListN.{set}
 use lib.Pow.{shr-shr}
 use Rattle.rules.specs.Lists.{splice}
 use Rattle.rules.specs.Fields.{field, bits_of}
@@ -17,13 +17,11 @@ pub loop-i-init : goal.loop-i-init
 unfolding field
 loop-i-init c =
     let a = c.args in
-    let z : 0 ≡ (a.to - a.to) * 8 = omega arith in (
-      omega arith,
-      omega arith,
-      refl,
-      sym (div-one a.v) ∙ ap (λ (n : ℕ). a.v / 2 ^ n) z,
-      sym (splice_none (bits_of a.out.now) (a.to * 8)) ∙ ap (λ (n : ℕ). splice (bits_of a.out.now) (a.to * 8) (field n a.v)) z,
-    )
+    let z : 0 ≡ (a.to - a.to) * 8 = omega arith in record {
+      within = omega arith;
+      rest = sym (div-one a.v) ∙ ap (λ (n : ℕ). a.v / 2 ^ n) z;
+      written = sym (splice_none (bits_of a.out.now) (a.to * 8)) ∙ ap (λ (n : ℕ). splice (bits_of a.out.now) (a.to * 8) (field n a.v)) z;
+    }
 
 pub loop-i-preserved : goal.loop-i-preserved
 loop-i-preserved c =
@@ -31,14 +29,13 @@ loop-i-preserved c =
     let t = c.loop-i in
     let d : ℕ = (a.to - t.i) * 8 in
     let l : List ℕ = bits_of a.out.now in
-    let el = t.invariant.3 in
+    let el = t.invariant.rest in
     let e : 8 + d ≡ (a.to - (t.i - 1)) * 8 = omega arith in
-    let e' : d + 8 ≡ (a.to - (t.i - 1)) * 8 = omega arith in (
-      omega arith,
-      omega arith,
-      length-set t.out (t.i - 1) (t.left % 256) ∙ t.invariant.2,
-      ap (λ (x : ℕ). x / 256) el ∙ shr-shr a.v d 8 ∙ ap (λ (n : ℕ). a.v / 2 ^ n) e',
-      ap (λ (x : ℕ). bits_of (set t.out (t.i - 1) (x % 256))) el
-          ∙ put_more t.out l t.i d a.v (omega arith) (omega arith) (omega (arith, bits_of_length a.out.now)) t.invariant.4
-          ∙ ap (λ (n : ℕ). splice l ((t.i - 1) * 8) (field n a.v)) e,
-    )
+    let e' : d + 8 ≡ (a.to - (t.i - 1)) * 8 = omega arith in record {
+      within = omega arith;
+      rest = ap (λ (x : ℕ). x / 256) el ∙ shr-shr a.v d 8 ∙ ap (λ (n : ℕ). a.v / 2 ^ n) e';
+      written =
+          ap (λ (x : ℕ). bits_of (set t.out (t.i - 1) (x % 256))) el
+          ∙ put_more t.out l t.i d a.v (omega arith) (omega arith) (omega (arith, bits_of_length a.out.now)) t.invariant.written
+          ∙ ap (λ (n : ℕ). splice l ((t.i - 1) * 8) (field n a.v)) e;
+    }

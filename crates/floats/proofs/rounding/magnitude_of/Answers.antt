@@ -1,15 +1,7 @@
 -- `floats::rounding::magnitude_of` meets its contract. Assumes nothing.
-use Rattle.std.proofs.Common.{◌^◌, arith}
 use lib.Count.{count_leading_zeros}
-use Rattle.nearest.proofs.Closest.{closest_most}
 use Rattle.nearest.proofs.Placed.{leading_some, lower_nearest, upper_nearest}
 use Rattle.floats.proofs.rounding.magnitude_of.Goals as goal
-
-pub placed-requires : goal.placed-requires
-placed-requires c = (
-  omega (arith, leading_some 31 c.args.c c.requires.1 c.ranges.c.fits),
-  rw c.closest.ensures (closest_most _ c.raised-u.result (2 ^ 24) (omega arith) (omega (arith, c.if-n-u.true))),
-)
 
 pub returns-then-n-u : goal.returns-then-n-u
 returns-then-n-u c =
@@ -25,12 +17,6 @@ returns-then-n-u c =
           n.ensures.1.0 n.ensures.1.1 u.ensures.1.0 u.ensures.1.1
           (leading_some 31 a.a p.0 f.a.fits) (leading_some 31 a.c p.1 f.c.fits) p.1 f.a.fits s c.if-n-u.true),
     )
-
-pub placed-requires-2 : goal.placed-requires-2
-placed-requires-2 c = (
-  omega (arith, leading_some 31 c.args.c c.requires.1 c.ranges.c.fits),
-  rw c.closest-2.ensures (closest_most _ c.raised-u.result (2 ^ 24) (omega arith) (omega arith)),
-)
 
 pub returns : goal.returns
 returns c =

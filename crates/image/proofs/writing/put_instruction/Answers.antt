@@ -1,28 +1,27 @@
 -- One field, inside the image. Assumes nothing.
-use Prim.Native.Nat.{ℕ, ◌+◌}
-use mathlib.Core.Path.{◌≡◌, sym, ap, ◌∙◌}
-use mathlib.Core.List.{List}
-use native.Mathlib.Omega.{arith}
-use lib.ListN.{length}
+use Rattle.std.proofs.Common.{◌≡◌, ◌+◌, ◌*◌, ◌%◌, ◌^◌, ◌≤◌, rules, ℕ, length, ◌∙◌, ap, arith}
 use Rattle.rules.specs.Lists.{splice}
 use Rattle.rules.specs.Fields.{field, bits_of}
 use Rattle.rules.specs.Image.{instruction_bits}
 use Rattle.rules.proofs.Fields.{bits_of_length, field_length}
 use Rattle.rules.proofs.Packing.{width_most}
 use Rattle.fields.proofs.Within.{written_inside}
+use Rattle.image.proofs.Instructions.{joined_bits}
 use Rattle.image.proofs.writing.put_instruction.Goals as goal
 
 pub returns : goal.returns
+unfolding instruction_bits
 returns c =
     let a = c.args in
-    let l : List ℕ = bits_of a.image.now in
-    let n = c.number_of in
-    let w : ℕ = 6 + c.width_of-width.result in
-    let e : field w n.result ≡ instruction_bits a.place = ap (λ (k : ℕ). field (6 + k) n.result) c.width_of-width.ensures ∙ n.ensures in
+    let code : ℕ = c.code_of-code.result in
+    let width : ℕ = c.width_of-width.result in
+    let span : ℕ = 1 * 2 ^ width % 2 ^ 64 in
+    let v : ℕ = code * span + c.operand_of.result % span in
+    let narrow : width ≤ 32 = omega (arith, c.width_of-width.ensures, width_most c.kind_of.result) in
+    let e : field (6 + width) v ≡ instruction_bits a.place =
+    joined_bits width code c.operand_of.result {span = span} (search rules)
+    ∙ rw (c.width_of-width.ensures, c.kind_of.ensures, c.code_of-code.ensures, c.operand_of.ensures) in
     record {
-      bits = c.put.ensures
-          ∙ written_inside l a.at w n.result (omega (arith, c.width_of-width.ensures, width_most c.kind_of-kind.result))
-          (omega (arith, c.width_of-width.ensures, width_most c.kind_of-kind.result, bits_of_length a.image.now))
-          ∙ ap (splice l a.at) e;
-      next = ap (λ (k : ℕ). a.at + k) (sym (field_length w n.result) ∙ ap length e);
+      bits = c.put.ensures ∙ written_inside (bits_of a.image.now) a.at (6 + width) v (omega arith) (omega (arith, bits_of_length a.image.now)) ∙ ap (splice (bits_of a.image.now) a.at) e;
+      next = omega (arith, field_length (6 + width) v, ap length e);
     }

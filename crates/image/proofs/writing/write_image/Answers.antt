@@ -1,13 +1,10 @@
 -- The count and the first i instructions stand over the zeros, up to bit `at`. Assumes nothing.
-use Prim.Native.Nat.{ℕ, ◌+◌, ◌*◌, ◌/◌, ◌<◌}
-use mathlib.Core.Path.{◌≡◌, sym, ap, ap₂, ◌∙◌}
-use mathlib.Core.List.{List}
-use native.Mathlib.Omega.{arith}
-use lib.ListN.{length, get_or, replicate, length-append, length-replicate}
+use Rattle.std.proofs.Common.{◌≡◌, ◌+◌, ◌*◌, ◌<◌, ℕ, List, length, get_or, take, replicate, sym, ap, ap₂, ◌∙◌, arith, length-append}
+use Rattle.std.proofs.lemmas.List.{length-replicate, length-take-le, get_or-take}
 use Rattle.rules.specs.Lists.{splice}
 use Rattle.rules.specs.Sizes.{image_size}
 use Rattle.rules.specs.Fields.{bits_of}
-use Rattle.rules.specs.Table.{program}
+use Rattle.program.specs.Lent.{program_of}
 use Rattle.rules.specs.Image.{instruction_bits, image_bits, image_length}
 use Rattle.rules.proofs.Fields.{bits_of_length, field_length}
 use Rattle.rules.proofs.Bits.{packed_is}
@@ -16,46 +13,47 @@ use Rattle.fields.proofs.Within.{written_inside}
 use Rattle.image.proofs.Instructions.{written_most}
 use Rattle.image.proofs.writing.write_image.Goals as goal
 
-pub loop-i-init : goal.loop-i-init
-loop-i-init c =
+pub loop-place-init : goal.loop-place-init
+loop-place-init c =
     let a = c.args in
-    let e : length a.image.now ≡ image_size = ap length c.requires.2 ∙ length-replicate {A = ℕ} image_size 0 in (
-      omega arith,
-      omega arith,
-      c.put.auto.out ∙ e,
-      sym (ap length (front_none a.table.now a.count) ∙ field_length 11 a.count),
-      c.put.ensures ∙ written_inside (bits_of a.image.now) 0 11 a.count (omega arith) (omega (arith, bits_of_length a.image.now))
-          ∙ ap₂ (λ (l f : List ℕ). splice (bits_of l) 0 f) c.requires.2 (sym (front_none a.table.now a.count)),
-      λ k. (c.type_inv.image k).fits,
-    )
+    let e : length a.image.now ≡ image_size = ap length c.requires.2 ∙ length-replicate {A = ℕ} image_size 0 in record {
+      near = omega arith;
+      at_end = sym (ap length (front_none a.p.table.now a.p.length) ∙ field_length 11 a.p.length);
+      written = c.put.ensures ∙ written_inside (bits_of a.image.now) 0 11 a.p.length (omega arith) (omega (arith, bits_of_length a.image.now))
+          ∙ ap₂ (λ (l f : List ℕ). splice (bits_of l) 0 f) c.requires.2 (sym (front_none a.p.table.now a.p.length));
+      bytes = λ k. (c.type_inv.image k).fits;
+    }
 
-pub loop-i-preserved : goal.loop-i-preserved
-loop-i-preserved c =
+pub loop-place-preserved : goal.loop-place-preserved
+loop-place-preserved c =
     let a = c.args in
-    let t = c.loop-i in
-    let q = c.put_instruction-at in
+    let t = c.loop-place in
+    let i : ℕ = t.place-index in
+    let place : ℕ = get_or a.p.table.now i 0 in
+    let q = c.put_instruction-at.ensures in
+    let n : length (take a.p.length a.p.table.now) ≡ a.p.length = length-take-le a.p.length a.p.table.now c.requires.1 in
+    let h : i < length a.p.table.now = omega arith in
+    let e : get_or (take a.p.length a.p.table.now) i 0 ≡ place = get_or-take a.p.length a.p.table.now i 0 (omega arith) in
+    let next : c.put_instruction-at.result ≡ t.at + length (instruction_bits place) = q.next ∙ rw e in
     let z : List ℕ = bits_of (replicate image_size 0) in
-    let lz : length z ≡ 38928 = bits_of_length (replicate image_size 0) ∙ ap (λ (k : ℕ). k * 8) (length-replicate {A = ℕ} image_size 0) in
-    let h : t.i < length a.table.now = omega arith in (
-      omega arith,
-      omega (arith, q.ensures.next, written_most (get_or a.table.now t.i 0)),
-      q.auto.image ∙ t.invariant.2,
-      q.ensures.next ∙ ap (λ (k : ℕ). k + length (instruction_bits (get_or a.table.now t.i 0))) t.invariant.3
-          ∙ sym (ap length (front_more a.table.now a.count t.i h) ∙ length-append (front a.table.now a.count t.i) _),
-      front_written z (bits_of t.image) _ a.table.now a.count t.i t.at h t.invariant.3 (omega arith) t.invariant.4 q.ensures.bits,
-      λ k. (c.type_inv.image k).fits,
-    )
+    let lz : length z ≡ image_size * 8 = bits_of_length (replicate image_size 0) ∙ ap (λ (k : ℕ). k * 8) (length-replicate {A = ℕ} image_size 0) in record {
+      near = omega (arith, next, written_most place);
+      at_end = omega (arith, next, ap length (front_more a.p.table.now a.p.length i h) ∙ length-append (front a.p.table.now a.p.length i) _);
+      written = front_written z (bits_of t.image) _ a.p.table.now a.p.length i t.at h t.invariant.at_end (omega arith) t.invariant.written (q.bits ∙ rw e);
+      bytes = λ k. (c.type_inv.image k).fits;
+    }
 
 pub returns : goal.returns
 unfolding image_length
 returns c =
     let a = c.args in
-    let t = c.loop-i in
-    let i : t.i ≡ a.count = omega arith in
-    let e : front a.table.now a.count t.i ≡ image_bits (program a.table.now a.count) =
-    ap (front a.table.now a.count) i ∙ front_all a.table.now a.count in
+    let t = c.loop-place in
+    let i : t.place-index ≡ a.p.length = omega (arith, length-take-le a.p.length a.p.table.now c.requires.1) in
+    let e : front a.p.table.now a.p.length t.place-index ≡ image_bits (program_of a.p) =
+    ap (front a.p.table.now a.p.length) i ∙ front_all a.p.table.now a.p.length in
+    let long : length t.image ≡ image_size = omega (arith, ap length c.requires.2 ∙ length-replicate {A = ℕ} image_size 0) in
     record {
-      bytes = packed_is image_size t.image (image_bits (program a.table.now a.count)) t.invariant.2 t.invariant.5
-          (t.invariant.4 ∙ ap (splice (bits_of (replicate image_size 0)) 0) e);
-      told = ap (λ (k : ℕ). (k + 7) / 8) (t.invariant.3 ∙ ap length e);
+      bytes = packed_is image_size t.image (image_bits (program_of a.p)) long t.invariant.bytes
+          (t.invariant.written ∙ ap (splice (bits_of (replicate image_size 0)) 0) e);
+      told = omega (arith, c.div_ceil.ensures, t.invariant.at_end ∙ ap length e);
     }

@@ -7,6 +7,5 @@ use Rattle.lister.proofs.line.put_name.Goals as goal
 pub loop-i-preserved : goal.loop-i-preserved
 loop-i-preserved c =
     let a = c.args in
-    let v = c.loop-i.invariant in
-    let i = c.loop-i.i in
-    (v.0, omega arith, c.put_byte.auto.out ∙ v.2, c.put_byte.ensures ∙ rw (c.name_byte-b.ensures, v.3) (put_more a.out.now (name_of a.code) a.at i (omega arith)))
+    let t = c.loop-i in
+    c.put_byte.ensures ∙ rw (c.name_byte.ensures, t.invariant) (put_more a.out.now (name_of a.code) a.at t.i (omega arith))

@@ -5,8 +5,8 @@ use Rattle.rules.specs.Step.{in_stack}
 use Rattle.machine.specs.Plan.{planned}
 use Rattle.machine.proofs.addresses.on_add_sp.Goals as goal
 
-pub returns-in-Below : goal.returns-in-Below
+pub returns-in-None : goal.returns-in-None
 unfolding planned
-returns-in-Below c m =
+returns-in-None c m =
     let a = c.args in
-    ap (in_stack a.r) (sym (add_below a.r a.offset (rw c.in-Below.is at c.moved_by-to.ensures)))
+    ap (in_stack a.r) (sym (add_below a.r a.offset (rw c.in-None.is at c.moved_by.ensures)))

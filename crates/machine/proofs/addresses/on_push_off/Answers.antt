@@ -7,12 +7,12 @@ pub returns-else-a-r : goal.returns-else-a-r
 unfolding planned
 returns-else-a-r c m =
     let a = c.args in
-    let leads = rw c.in-To.is at c.moved_by-to.ensures in
-    rw (frame_out a.r a.offset a.r.sp c.in-To.a leads c.if-a-r.false)
+    let leads = rw c.in-Some.is at c.moved_by.ensures in
+    rw (frame_out a.s.r a.offset a.s.r.sp c.in-Some.a leads c.if-a-r.false)
 
-pub returns-in-Below : goal.returns-in-Below
+pub returns-in-None : goal.returns-in-None
 unfolding planned
-returns-in-Below c m =
+returns-in-None c m =
     let a = c.args in
-    let leads = rw c.in-Below.is at c.moved_by-to.ensures in
-    rw (frame_below a.r a.offset a.r.sp leads)
+    let leads = rw c.in-None.is at c.moved_by.ensures in
+    rw (frame_below a.s.r a.offset a.s.r.sp leads)

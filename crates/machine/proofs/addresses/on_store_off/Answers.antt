@@ -13,12 +13,12 @@ pub returns-else-a-r : goal.returns-else-a-r
 unfolding planned
 returns-else-a-r c m =
     let a = c.args in
-    let leads = rw c.in-To.is at c.moved_by-to.ensures in
-    rw (le-leb _ _ c.if-r-lt1.false, frame_out a.r a.offset (a.r.sp - 1) c.in-To.a leads c.if-a-r.false)
+    let leads = rw c.in-Some.is at c.moved_by.ensures in
+    rw (le-leb _ _ c.if-r-lt1.false, frame_out a.r a.offset (a.r.sp - 1) c.in-Some.a leads c.if-a-r.false)
 
-pub returns-in-Below : goal.returns-in-Below
+pub returns-in-None : goal.returns-in-None
 unfolding planned
-returns-in-Below c m =
+returns-in-None c m =
     let a = c.args in
-    let leads = rw c.in-Below.is at c.moved_by-to.ensures in
+    let leads = rw c.in-None.is at c.moved_by.ensures in
     rw (le-leb _ _ c.if-r-lt1.false, frame_below a.r a.offset (a.r.sp - 1) leads)

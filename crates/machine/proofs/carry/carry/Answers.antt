@@ -1,155 +1,111 @@
--- The answers of `machine::carry::carry`, shape by shape. Assumes nothing.
+-- The answers of `machine::carry::carry`, plan by plan. Assumes nothing.
 use mathlib.Core.Path.{refl, ◌∙◌}
 use native.Mathlib.Omega.{arith}
-use Rattle.rules.specs.declared.MachineRefusal.TheVariants as refusal
-use Rattle.machine.specs.declared.plans.Shape.TheVariants.{Jump, Move, Frame, Halt, Result, Store, Call, Link, Swap, Fill, Show, TooFewValues, WrongTag, NoResult, BadAddress, StackFull}
 use Rattle.machine.proofs.Carries.{fits_as, carried_by, carried_as, carried_refused}
 use Rattle.machine.proofs.carry.carry.Goals as goal
 
-pub results-requires : goal.results-requires
-results-requires c =
+pub pushes-requires : goal.pushes-requires
+pushes-requires c =
     let a = c.args in
-    let o = fits_as a.r a.d Result c.in-Result.is a.bits.now a.tags.now a.history.now refl refl c.requires.fits in
+    let o = fits_as a.r a.d a.bits.now a.tags.now a.history.now c.in-Ok-Push.is (rw c.in-Ok-Push.is at c.in-Ok-Push.field-0-is) refl c.requires.fits in
     (c.requires.small.0, omega (arith, o.block, o.tagged, o.fields.few))
 
 pub commit-requires : goal.commit-requires
-commit-requires c =
-    let a = c.args in
-    fits_as a.r a.d Result c.in-Result.is a.bits.now a.tags.now a.history.now c.results.ensures refl c.requires.fits
+commit-requires c = let a = c.args in fits_as a.r a.d a.bits.now a.tags.now a.history.now c.in-Ok-Push.is (rw c.in-Ok-Push.is at c.in-Ok-Push.field-0-is) c.pushes.ensures c.requires.fits
 
-pub returns-in-Result : goal.returns-in-Result
-returns-in-Result c =
+pub returns-in-Ok-Push : goal.returns-in-Ok-Push
+returns-in-Ok-Push c =
     let a = c.args in
-    carried_as a.r a.d Result c.in-Result.is a.bits.now a.tags.now a.history.now a.output.now _ _ _ _ c.results.ensures refl refl (c.commit.ensures a.output.now)
+    carried_as a.r a.d a.bits.now a.tags.now a.history.now a.output.now _ _ _ _ c.in-Ok-Push.is (rw c.in-Ok-Push.is at c.in-Ok-Push.field-0-is) c.pushes.ensures refl (c.commit.ensures a.output.now)
 
-pub commit-requires-in-Jump : goal.commit-requires-in-Jump
-commit-requires-in-Jump c =
-    let a = c.args in
-    fits_as a.r a.d Jump c.in-Jump.is a.bits.now a.tags.now a.history.now c.jumps.ensures refl c.requires.fits
+pub commit-requires-in-Ok-Jump : goal.commit-requires-in-Ok-Jump
+commit-requires-in-Ok-Jump c = let a = c.args in fits_as a.r a.d a.bits.now a.tags.now a.history.now c.in-Ok-Jump.is (rw c.in-Ok-Jump.is at c.in-Ok-Jump.field-0-is) c.jumps.ensures c.requires.fits
 
-pub returns-in-Jump : goal.returns-in-Jump
-returns-in-Jump c =
+pub returns-in-Ok-Jump : goal.returns-in-Ok-Jump
+returns-in-Ok-Jump c =
     let a = c.args in
-    carried_as a.r a.d Jump c.in-Jump.is a.bits.now a.tags.now a.history.now a.output.now _ _ _ _ c.jumps.ensures refl refl (c.commit-in-Jump.ensures a.output.now)
+    carried_as a.r a.d a.bits.now a.tags.now a.history.now a.output.now _ _ _ _ c.in-Ok-Jump.is (rw c.in-Ok-Jump.is at c.in-Ok-Jump.field-0-is) c.jumps.ensures refl (c.commit-in-Ok-Jump.ensures a.output.now)
 
-pub commit-requires-in-Store : goal.commit-requires-in-Store
-commit-requires-in-Store c =
-    let a = c.args in
-    fits_as a.r a.d Store c.in-Store.is a.bits.now a.tags.now a.history.now c.stores.ensures refl c.requires.fits
+pub commit-requires-in-Ok-Store : goal.commit-requires-in-Ok-Store
+commit-requires-in-Ok-Store c = let a = c.args in fits_as a.r a.d a.bits.now a.tags.now a.history.now c.in-Ok-Store.is (rw c.in-Ok-Store.is at c.in-Ok-Store.field-0-is) c.stores.ensures c.requires.fits
 
-pub returns-in-Store : goal.returns-in-Store
-returns-in-Store c =
+pub returns-in-Ok-Store : goal.returns-in-Ok-Store
+returns-in-Ok-Store c =
     let a = c.args in
-    carried_as a.r a.d Store c.in-Store.is a.bits.now a.tags.now a.history.now a.output.now _ _ _ _ c.stores.ensures refl refl (c.commit-in-Store.ensures a.output.now)
+    carried_as a.r a.d a.bits.now a.tags.now a.history.now a.output.now _ _ _ _ c.in-Ok-Store.is (rw c.in-Ok-Store.is at c.in-Ok-Store.field-0-is) c.stores.ensures refl (c.commit-in-Ok-Store.ensures a.output.now)
 
 pub calls-requires : goal.calls-requires
 calls-requires c =
     let a = c.args in
-    let o = fits_as a.r a.d Call c.in-Call.is a.bits.now a.tags.now a.history.now refl refl c.requires.fits in
+    let o = fits_as a.r a.d a.bits.now a.tags.now a.history.now c.in-Ok-Call.is (rw c.in-Ok-Call.is at c.in-Ok-Call.field-0-is) refl c.requires.fits in
     (c.requires.small.0, omega (arith, o.block, o.tagged, o.fields.few))
 
-pub commit-requires-in-Call : goal.commit-requires-in-Call
-commit-requires-in-Call c =
-    let a = c.args in
-    fits_as a.r a.d Call c.in-Call.is a.bits.now a.tags.now a.history.now c.calls.ensures refl c.requires.fits
+pub commit-requires-in-Ok-Call : goal.commit-requires-in-Ok-Call
+commit-requires-in-Ok-Call c = let a = c.args in fits_as a.r a.d a.bits.now a.tags.now a.history.now c.in-Ok-Call.is (rw c.in-Ok-Call.is at c.in-Ok-Call.field-0-is) c.calls.ensures c.requires.fits
 
-pub returns-in-Call : goal.returns-in-Call
-returns-in-Call c =
+pub returns-in-Ok-Call : goal.returns-in-Ok-Call
+returns-in-Ok-Call c =
     let a = c.args in
-    carried_as a.r a.d Call c.in-Call.is a.bits.now a.tags.now a.history.now a.output.now _ _ _ _ c.calls.ensures refl refl (c.commit-in-Call.ensures a.output.now)
+    carried_as a.r a.d a.bits.now a.tags.now a.history.now a.output.now _ _ _ _ c.in-Ok-Call.is (rw c.in-Ok-Call.is at c.in-Ok-Call.field-0-is) c.calls.ensures refl (c.commit-in-Ok-Call.ensures a.output.now)
 
-pub commit-requires-in-Link : goal.commit-requires-in-Link
-commit-requires-in-Link c =
-    let a = c.args in
-    fits_as a.r a.d Link c.in-Link.is a.bits.now a.tags.now a.history.now c.links.ensures refl c.requires.fits
+pub commit-requires-in-Ok-Link : goal.commit-requires-in-Ok-Link
+commit-requires-in-Ok-Link c = let a = c.args in fits_as a.r a.d a.bits.now a.tags.now a.history.now c.in-Ok-Link.is (rw c.in-Ok-Link.is at c.in-Ok-Link.field-0-is) c.links.ensures c.requires.fits
 
-pub returns-in-Link : goal.returns-in-Link
-returns-in-Link c =
+pub returns-in-Ok-Link : goal.returns-in-Ok-Link
+returns-in-Ok-Link c =
     let a = c.args in
-    carried_as a.r a.d Link c.in-Link.is a.bits.now a.tags.now a.history.now a.output.now _ _ _ _ c.links.ensures refl refl (c.commit-in-Link.ensures a.output.now)
+    carried_as a.r a.d a.bits.now a.tags.now a.history.now a.output.now _ _ _ _ c.in-Ok-Link.is (rw c.in-Ok-Link.is at c.in-Ok-Link.field-0-is) c.links.ensures refl (c.commit-in-Ok-Link.ensures a.output.now)
 
-pub commit-requires-in-Move : goal.commit-requires-in-Move
-commit-requires-in-Move c =
-    let a = c.args in
-    fits_as a.r a.d Move c.in-Move.is a.bits.now a.tags.now a.history.now c.moves.ensures refl c.requires.fits
+pub commit-requires-in-Ok-Move : goal.commit-requires-in-Ok-Move
+commit-requires-in-Ok-Move c = let a = c.args in fits_as a.r a.d a.bits.now a.tags.now a.history.now c.in-Ok-Move.is (rw c.in-Ok-Move.is at c.in-Ok-Move.field-0-is) c.moves.ensures c.requires.fits
 
-pub returns-in-Move : goal.returns-in-Move
-returns-in-Move c =
+pub returns-in-Ok-Move : goal.returns-in-Ok-Move
+returns-in-Ok-Move c =
     let a = c.args in
-    carried_as a.r a.d Move c.in-Move.is a.bits.now a.tags.now a.history.now a.output.now _ _ _ _ c.moves.ensures refl refl (c.commit-in-Move.ensures a.output.now)
+    carried_as a.r a.d a.bits.now a.tags.now a.history.now a.output.now _ _ _ _ c.in-Ok-Move.is (rw c.in-Ok-Move.is at c.in-Ok-Move.field-0-is) c.moves.ensures refl (c.commit-in-Ok-Move.ensures a.output.now)
 
-pub commit-requires-in-Frame : goal.commit-requires-in-Frame
-commit-requires-in-Frame c =
-    let a = c.args in
-    fits_as a.r a.d Frame c.in-Frame.is a.bits.now a.tags.now a.history.now c.frames.ensures refl c.requires.fits
+pub commit-requires-in-Ok-Frame : goal.commit-requires-in-Ok-Frame
+commit-requires-in-Ok-Frame c = let a = c.args in fits_as a.r a.d a.bits.now a.tags.now a.history.now c.in-Ok-Frame.is (rw c.in-Ok-Frame.is at c.in-Ok-Frame.field-0-is) c.frames.ensures c.requires.fits
 
-pub returns-in-Frame : goal.returns-in-Frame
-returns-in-Frame c =
+pub returns-in-Ok-Frame : goal.returns-in-Ok-Frame
+returns-in-Ok-Frame c =
     let a = c.args in
-    carried_as a.r a.d Frame c.in-Frame.is a.bits.now a.tags.now a.history.now a.output.now _ _ _ _ c.frames.ensures refl refl (c.commit-in-Frame.ensures a.output.now)
+    carried_as a.r a.d a.bits.now a.tags.now a.history.now a.output.now _ _ _ _ c.in-Ok-Frame.is (rw c.in-Ok-Frame.is at c.in-Ok-Frame.field-0-is) c.frames.ensures refl (c.commit-in-Ok-Frame.ensures a.output.now)
 
-pub commit-requires-in-Halt : goal.commit-requires-in-Halt
-commit-requires-in-Halt c =
-    let a = c.args in
-    fits_as a.r a.d Halt c.in-Halt.is a.bits.now a.tags.now a.history.now c.halts.ensures refl c.requires.fits
+pub commit-requires-in-Ok-Halt : goal.commit-requires-in-Ok-Halt
+commit-requires-in-Ok-Halt c = let a = c.args in fits_as a.r a.d a.bits.now a.tags.now a.history.now c.in-Ok-Halt.is (rw c.in-Ok-Halt.is at c.in-Ok-Halt.field-0-is) c.halts.ensures c.requires.fits
 
-pub returns-in-Halt : goal.returns-in-Halt
-returns-in-Halt c =
+pub returns-in-Ok-Halt : goal.returns-in-Ok-Halt
+returns-in-Ok-Halt c =
     let a = c.args in
-    carried_as a.r a.d Halt c.in-Halt.is a.bits.now a.tags.now a.history.now a.output.now _ _ _ _ c.halts.ensures refl refl (c.commit-in-Halt.ensures a.output.now)
+    carried_as a.r a.d a.bits.now a.tags.now a.history.now a.output.now _ _ _ _ c.in-Ok-Halt.is (rw c.in-Ok-Halt.is at c.in-Ok-Halt.field-0-is) c.halts.ensures refl (c.commit-in-Ok-Halt.ensures a.output.now)
 
-pub commit-requires-in-Swap : goal.commit-requires-in-Swap
-commit-requires-in-Swap c =
-    let a = c.args in
-    fits_as a.r a.d Swap c.in-Swap.is a.bits.now a.tags.now a.history.now c.swaps.ensures refl c.requires.fits
+pub commit-requires-in-Ok-Swap : goal.commit-requires-in-Ok-Swap
+commit-requires-in-Ok-Swap c = let a = c.args in fits_as a.r a.d a.bits.now a.tags.now a.history.now c.in-Ok-Swap.is (rw c.in-Ok-Swap.is at c.in-Ok-Swap.field-0-is) c.swaps.ensures c.requires.fits
 
-pub returns-in-Swap : goal.returns-in-Swap
-returns-in-Swap c =
+pub returns-in-Ok-Swap : goal.returns-in-Ok-Swap
+returns-in-Ok-Swap c =
     let a = c.args in
-    carried_as a.r a.d Swap c.in-Swap.is a.bits.now a.tags.now a.history.now a.output.now _ _ _ _ c.swaps.ensures refl refl (c.commit-in-Swap.ensures a.output.now)
+    carried_as a.r a.d a.bits.now a.tags.now a.history.now a.output.now _ _ _ _ c.in-Ok-Swap.is (rw c.in-Ok-Swap.is at c.in-Ok-Swap.field-0-is) c.swaps.ensures refl (c.commit-in-Ok-Swap.ensures a.output.now)
 
-pub commit-requires-in-Fill : goal.commit-requires-in-Fill
-commit-requires-in-Fill c =
-    let a = c.args in
-    fits_as a.r a.d Fill c.in-Fill.is a.bits.now a.tags.now a.history.now c.fills.ensures refl c.requires.fits
+pub commit-requires-in-Ok-Fill : goal.commit-requires-in-Ok-Fill
+commit-requires-in-Ok-Fill c = let a = c.args in fits_as a.r a.d a.bits.now a.tags.now a.history.now c.in-Ok-Fill.is (rw c.in-Ok-Fill.is at c.in-Ok-Fill.field-0-is) c.fills.ensures c.requires.fits
 
-pub returns-in-Fill : goal.returns-in-Fill
-returns-in-Fill c =
+pub returns-in-Ok-Fill : goal.returns-in-Ok-Fill
+returns-in-Ok-Fill c =
     let a = c.args in
-    carried_as a.r a.d Fill c.in-Fill.is a.bits.now a.tags.now a.history.now a.output.now _ _ _ _ c.fills.ensures refl refl (c.commit-in-Fill.ensures a.output.now)
+    carried_as a.r a.d a.bits.now a.tags.now a.history.now a.output.now _ _ _ _ c.in-Ok-Fill.is (rw c.in-Ok-Fill.is at c.in-Ok-Fill.field-0-is) c.fills.ensures refl (c.commit-in-Ok-Fill.ensures a.output.now)
 
 pub show-requires : goal.show-requires
 show-requires c =
     let a = c.args in
-    let o = fits_as a.r a.d Show c.in-Show.is a.bits.now a.tags.now a.history.now refl refl c.requires.fits in
+    let o = fits_as a.r a.d a.bits.now a.tags.now a.history.now c.in-Ok-Show.is (rw c.in-Ok-Show.is at c.in-Ok-Show.field-0-is) refl c.requires.fits in
     record { small = (c.requires.small.0, o.byte); fits = o }
 
-pub returns-in-Show : goal.returns-in-Show
-returns-in-Show c =
+pub returns-in-Ok-Show : goal.returns-in-Ok-Show
+returns-in-Ok-Show c =
     let a = c.args in
-    c.show.ensures ∙ carried_by a.r a.d Show c.in-Show.is a.bits.now a.tags.now a.history.now a.output.now _ refl
+    c.show.ensures ∙ carried_by a.r a.d a.bits.now a.tags.now a.history.now a.output.now c.in-Ok-Show.is (rw c.in-Ok-Show.is at c.in-Ok-Show.field-0-is)
 
-pub returns-in-TooFewValues : goal.returns-in-TooFewValues
-returns-in-TooFewValues c =
-    let a = c.args in
-    carried_refused a.r a.d TooFewValues c.in-TooFewValues.is a.bits.now a.tags.now a.history.now a.output.now refusal.TooFewValues refl
-
-pub returns-in-WrongTag : goal.returns-in-WrongTag
-returns-in-WrongTag c =
-    let a = c.args in
-    carried_refused a.r a.d WrongTag c.in-WrongTag.is a.bits.now a.tags.now a.history.now a.output.now refusal.WrongTag refl
-
-pub returns-in-NoResult : goal.returns-in-NoResult
-returns-in-NoResult c =
-    let a = c.args in
-    carried_refused a.r a.d NoResult c.in-NoResult.is a.bits.now a.tags.now a.history.now a.output.now refusal.NoResult refl
-
-pub returns-in-BadAddress : goal.returns-in-BadAddress
-returns-in-BadAddress c =
-    let a = c.args in
-    carried_refused a.r a.d BadAddress c.in-BadAddress.is a.bits.now a.tags.now a.history.now a.output.now refusal.BadAddress refl
-
-pub returns-in-StackFull : goal.returns-in-StackFull
-returns-in-StackFull c =
-    let a = c.args in
-    carried_refused a.r a.d StackFull c.in-StackFull.is a.bits.now a.tags.now a.history.now a.output.now refusal.StackFull refl
+pub returns-in-Err : goal.returns-in-Err
+returns-in-Err c = let a = c.args in carried_refused a.r a.d a.bits.now a.tags.now a.history.now a.output.now c.in-Err.is

@@ -17,11 +17,9 @@ loop-i-preserved c =
     let test = c.loop-i-test.true in
     let ht : a.e.at + a.e.count ≤ length a.tags.now = omega (arith, c.requires.tags_len) in
     let hb : a.e.at + a.e.count ≤ length a.bits.now = c.requires.tags_len.1.0 in
-    let n = kept_length a.e.at a.e.count a.tags.now a.bits.now ht hb in (
-      omega (arith, test),
-      stored_more c.cell_place.result l.invariant.1 (omega (arith, test, n))
-          (c.cell_place.ensures ∙ sym (kept_at a.e.at a.e.count a.tags.now a.bits.now ht hb l.i test)),
-    )
+    let n = kept_length a.e.at a.e.count a.tags.now a.bits.now ht hb in
+    stored_more c.cell_place.result l.invariant (omega (arith, test, n))
+    (c.cell_place.ensures ∙ sym (kept_at a.e.at a.e.count a.tags.now a.bits.now ht hb l.i test))
 
 pub returns : goal.returns
 returns c =
@@ -33,6 +31,6 @@ returns c =
     let room : a.r.used + (a.e.count + 1) ≤ length a.history.now = c.requires.tags_len.1.1 in
     record_ends a.history.now l.history
     (cell_places a.e.at (part a.e.at a.e.count a.tags.now) (part a.e.at a.e.count a.bits.now))
-    a.r.used a.e.count _ n room l.invariant.1.len
-    (stored_all l.invariant.1 (omega (arith, c.loop-i-test.false, n)) (omega (arith, room, n)))
+    a.r.used a.e.count _ n room l.invariant.len
+    (stored_all l.invariant (omega (arith, c.loop-i-test.false, n)) (omega (arith, room, n)))
     ∙ ap (λ (s : ℕ). splice a.history.now a.r.used ((cell_places a.e.at (part a.e.at a.e.count a.tags.now) (part a.e.at a.e.count a.bits.now)) ++ (s ∷ []))) c.step_place.ensures

@@ -12,9 +12,8 @@ loop-i-preserved c =
     let n = c.args.count in
     let test = c.loop-i-test.true in
     let inside : l.i < length (replicate {A = ℕ} n 0) = omega (arith, test, length-replicate {A = ℕ} n 0) in (
-      omega (arith, test),
+      stored_more 0 l.invariant.0 inside (sym (get_or-replicate n l.i 0 0 test)),
       stored_more 0 l.invariant.1 inside (sym (get_or-replicate n l.i 0 0 test)),
-      stored_more 0 l.invariant.2 inside (sym (get_or-replicate n l.i 0 0 test)),
     )
 
 pub returns : goal.returns
@@ -23,6 +22,6 @@ returns c =
     let n = c.args.count in
     let all = length-replicate {A = ℕ} n 0 in
     record {
-      bits_after = stored_all l.invariant.1 (omega (arith, c.loop-i-test.false, all)) (omega (arith, all, c.requires));
-      tags_after = stored_all l.invariant.2 (omega (arith, c.loop-i-test.false, all)) (omega (arith, all, c.requires));
+      bits_after = stored_all l.invariant.0 (omega (arith, c.loop-i-test.false, all)) (omega (arith, all, c.requires));
+      tags_after = stored_all l.invariant.1 (omega (arith, c.loop-i-test.false, all)) (omega (arith, all, c.requires));
     }

@@ -17,7 +17,7 @@ returns-then-letter-eq0 c =
     let a = c.args in
     sym (no_letter (name_of a.code) a.i (name_capital a.code) c.name_word.ensures c.if-letter-eq0.true)
 
-pub returns : goal.returns
-returns c =
+pub returns-else-letter-eq0 : goal.returns-else-letter-eq0
+returns-else-letter-eq0 c =
     let a = c.args in
     a_letter (name_of a.code) a.i (name_capital a.code) c.name_word.ensures c.if-letter-eq0.false

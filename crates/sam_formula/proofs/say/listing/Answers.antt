@@ -5,10 +5,8 @@ use Rattle.sam_formula.proofs.say.listing.Goals as goal
 
 pub slice_bounds-lines-end : goal.slice_bounds-lines-end
 slice_bounds-lines-end g c =
-    let listed = c.list-listed in
-    omega (arith, listed.auto.text, c.listed_length-told.ensures, listed_within _ _ listed.result listed.ensures.0)
+    omega (arith, c.list.auto.text, c.unwrap_or-told.ensures, listed_within _ _ c.list.result c.list.ensures.0)
 
-pub slice_bounds-text-end : goal.slice_bounds-text-end
-slice_bounds-text-end g c =
-    let listed = c.list-listed in
-    sym (length-take-le _ _ (omega (arith, listed.auto.text, c.listed_length-told.ensures, listed_within _ _ listed.result listed.ensures.0)))
+pub slice_bounds-write_all-end : goal.slice_bounds-write_all-end
+slice_bounds-write_all-end g c =
+    sym (length-take-le _ _ (omega (arith, c.list.auto.text, c.unwrap_or-told.ensures, listed_within _ _ c.list.result c.list.ensures.0)))

@@ -5,4 +5,4 @@ use Rattle.word.proofs.integers.times.Goals as goal
 
 pub returns : goal.returns
 returns c =
-    omega (arith, product c.args.b c.args.t, c.wrapping_add_u32.ensures, c.wrapping_add_u32-middle.ensures)
+    omega (arith, product c.args.b c.args.t)

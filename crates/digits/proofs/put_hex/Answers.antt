@@ -1,8 +1,0 @@
--- `digits::put_hex` meets its contract. Assumes nothing.
-use mathlib.Core.Path.{sym}
-use Rattle.rules.proofs.Texts as texts
-use Rattle.digits.proofs.put_hex.Goals as goal
-
-pub returns : goal.returns
-returns c =
-    record { length_told = sym (texts.length_hex 8 c.args.n); written = c.put_hex_digits.ensures }

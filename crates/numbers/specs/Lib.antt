@@ -1,0 +1,2 @@
+-- What the numbers' contracts cite besides the rules.
+pub mod Answered

@@ -1,0 +1,2 @@
+-- Laws for the proofs of this crate.
+pub mod Fields

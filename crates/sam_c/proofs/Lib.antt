@@ -1,3 +1,0 @@
--- What several proofs cite.
-mod Lent
-mod Called
