@@ -22,7 +22,7 @@ pub(crate) struct Label {
 }
 
 // What the first pass has read: how many items stand in the table; the labels, the first `named` of the list; and the code whose operand is awaited, for which the table has room.
-// Stays: the labels are a list with a count beside it, since there is no heap (a rule of the project).
+// Stays: the labels are a list with a count beside it, since the library takes no crate but std, and has no heap (rules of the project).
 #[derive(Drop)]
 pub(crate) struct FirstPass {
     pub items: usize,

@@ -12,14 +12,14 @@ use program::table::CODE_WEIGHT;
 use rules::{Kind, NumeralFault, TextRefusal, sizes, words};
 
 // The kinds of item: a finished one; a number target; a label target; a number target that no program is long enough for.
-// Stays: an item is packed into a word, with a number for its kind, since it stands in the lent table and there is no heap (a rule of the project).
+// Stays: an item is one word, since it stands in the lent table (no heap: a rule of the project); its kind is a number, since it is a field of that word: an enum would be made of the number first.
 pub(crate) const FINISHED: u64 = 0;
 
 pub(crate) const NUMBERED: u64 = 1;
 
 pub(crate) const LABELLED: u64 = 2;
 
-pub(crate) const BEYOND: u64 = 3;
+const BEYOND: u64 = 3;
 
 // The weight of a field of an item is what 1 counts for in it, and its span is how many numbers it has room for.
 pub(crate) const KIND_WEIGHT: u64 = 0x1000_0000_0000_0000;

@@ -89,6 +89,7 @@ fn undo(
 }
 
 // A step-back of a sound state: 9 where no place is used, then 10 for a top record that is not well formed, or at a WRITECH with nothing written.
+// Stays: the lent slices one by one, since a struct of them needs a lifetime for each, is taken apart where it comes in and is made anew at each call, and C lends them one by one.
 #[tactic(auto, unfolding(rules::specs::Back::plain_back))]
 fn plain_back(
     p: Program<'_>,

@@ -6,17 +6,14 @@ ghost use Rattle.rules.specs.Console.{bytes_text, out_line};
 ghost use Rattle.digits.specs.Put.{Put};
 ghost use Rattle.console.specs.Room.{print_room};
 
-// "each byte as a space and two hex capitals".
-const BYTE_DIGITS: usize = 2;
-
-// Writes a space and a byte as two hex digits.
+// Writes a space and a byte as two hex digits: "each byte as a space and two hex capitals".
 #[tactic(auto, using(rules::proofs::Texts::length_hex))]
 fn put_shown(out: &mut [u8], at: usize, byte: u8) -> usize
     requires { at + 3 ≤ print_room }
     ensures { Put out.old out.new at (space ∷ hex 2 byte) result }
 {
     digits::put_byte(out, at, 0, b' ');
-    digits::put_hex(out, at + 1, byte as u32, BYTE_DIGITS) + 1
+    digits::put_hex(out, at + 1, byte as u32, digits::BYTE_HEX) + 1
 }
 
 // Writes each of the bytes so, and LF.

@@ -27,7 +27,7 @@ fn put_cells(out: &mut [u8], at: usize, sp: usize, bits: &[u32], tags: &[u8]) ->
     ensures { Put out.old out.new at (cell_lines (cells bits.now tags.now) 0 sp) result × (result ≤ 29 * sp) }
 {
     let mut told = 0;
-    // Stays: by number, since the number is printed; `zip` and `enumerate` say no more, and their invariant has to carry what is left of both slices.
+    // Stays: by number, since the number is printed and the two slices are read at it; `zip` with `enumerate` (as in saved) is no shorter.
     for i in 0..sp {
         let cell = Cell {
             bits: bits[i],

@@ -8,9 +8,6 @@ ghost use Rattle.digits.specs.Put.{Put};
 use crate::words::put_number;
 use rules::{Cell, tags};
 
-// A hex digit for each four of 32 bits.
-const PATTERN_DIGITS: usize = 8;
-
 // Writes the bits of a FLOAT, and LF.
 #[tactic(auto, using(rules::proofs::Texts::length_hex))]
 fn put_pattern(out: &mut [u8], at: usize, bits: u32) -> usize
@@ -18,7 +15,7 @@ fn put_pattern(out: &mut [u8], at: usize, bits: u32) -> usize
     ensures { Put out.old out.new at ((hash ∷ hex 8 bits) ++ LF ∷ []) result × (result ≤ 12) }
 {
     digits::put_byte(out, at, 0, b'#');
-    let n = digits::put_hex(out, at + 1, bits, PATTERN_DIGITS);
+    let n = digits::put_hex(out, at + 1, bits, digits::WORD_HEX);
     digits::put_byte(out, at, n + 1, b'\n');
     n + 2
 }

@@ -8,7 +8,7 @@ ghost use Rattle.digits.specs.Put.{Put};
 use rules::tags;
 
 // Writes a word and the byte after it.
-pub(crate) fn put_word(out: &mut [u8], at: usize, word: &[u8], after: u8) -> usize
+fn put_word(out: &mut [u8], at: usize, word: &[u8], after: u8) -> usize
     ensures { Put out.old out.new at (word.now ++ after ∷ []) result × (result ≡ length word.now + 1) }
 {
     let n = digits::put_text(out, at, word);

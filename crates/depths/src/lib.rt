@@ -69,12 +69,10 @@ fn passes_rule(depths: &[u16], n: usize, instruction: u64, place: usize, depth: 
     let code = program::table::code_of(instruction);
     let operand = program::table::operand_of(instruction);
     let moves = program::moves::moves_of(code, operand);
-    let needs = moves.needs as usize;
-    let before = depth as usize;
-    if before < needs {
+    let Some(left) = (depth as usize).checked_sub(moves.needs as usize) else {
         return false;
-    }
-    let after = before - needs + moves.leaves as usize;
+    };
+    let after = left + moves.leaves as usize;
     after < n && are_listed(depths, after, code, operand, place)
 }
 
@@ -83,6 +81,7 @@ fn first_failing(p: Program<'_>, n: usize, depths: &[u16]) -> Option<usize>
     requires { Judgeable (program_of p) depths.now }
     ensures { result ≡ failing (rule (program_of p.entry) n depths.now) p.entry.length }
 {
+    // Stays: a loop, since with `find` two goals stay open that the loop does not have (tried).
     for place in 0..p.length {
         if !passes_rule(depths, n, p.table[place], place, depths[place]) {
             return Some(place);

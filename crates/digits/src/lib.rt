@@ -22,6 +22,8 @@ pub const WORD_HEX: usize = 8;
 
 pub const BYTE_HEX: usize = 2;
 
+// Stays: the bytes and the place one by one, and the length told, here and in console and lister: as fields of a writer each promise would say both as they were and as they are, and be no plainer.
+
 // Writes a byte at the place `at` + `i`, where the slice has that place.
 pub fn put_byte(out: &mut [u8], at: usize, i: usize, b: u8)
     ensures { out.new ≡ set out.old (at + i) b }

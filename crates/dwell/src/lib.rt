@@ -26,6 +26,7 @@ fn read_cell(tag: u8, bits: u32) -> Result<u32, DwellRefusal>
 }
 
 // Reads the dwell: 10 as a step judges it, then 60 where the machine is not halted, 61 where SP is 0, and then by cell 0.
+// Stays: the lent slices one by one, since a struct of them needs a lifetime for each, is taken apart where it comes in and is made anew at each call, and C lends them one by one.
 #[tactic(auto, using(rules::proofs::Dwells::first_cell), unfolding(rules::specs::Dwell::dwell))]
 pub fn dwell(
     p: Program<'_>,

@@ -6,7 +6,6 @@ ghost use Rattle.rules.specs.Dwell.{held, held_seconds};
 
 use floats::conversions::WHOLE;
 use floats::{EXPONENT_WEIGHT, SIGN};
-use rules::words;
 
 // "held between 10 and 300 tenths"
 const SHORTEST: u32 = 10;
@@ -25,10 +24,9 @@ const THIRTY_SECONDS: u32 = 0x41f0_0000;
 pub(crate) fn of_int(b: u32) -> u32
     ensures { result ≡ held (signed b) }
 {
-    if b >= words::LOWEST {
-        return SHORTEST;
-    }
-    b.clamp(SHORTEST, LONGEST)
+    b.cast_signed()
+        .clamp(SHORTEST as i32, LONGEST as i32)
+        .cast_unsigned()
 }
 
 // The tenths of a FLOAT that is no NaN: below 1 second, with a minus too, the shortest dwell; from 30 on, infinity too, the longest; between them ten times

@@ -12,6 +12,7 @@ pub(crate) fn put_bytes(out: &mut [u8], from: usize, to: usize, v: u64)
     ensures { bits_of out.new ≡ splice (bits_of out.old) (from * 8) (field ((to - from) * 8) v) }
 {
     let mut left = v;
+    // Stays: by place, since with `iter_mut().rev()` the goals of the loop stay open (tried), whose invariant speaks of the place.
     for i in (from..to).rev() {
         out[i] = (left % BYTE) as u8;
         left /= BYTE;

@@ -61,6 +61,7 @@ fn whole_of(t: u32) -> u32
 }
 
 // FTOI: the word of the INT that is left. Where there is none, which a step refuses, it is 0.
+// Stays: 0 and no None there, since that is what its clause promises, and that of a public function may not change.
 #[tactic(auto, using(nearest::proofs::Cut::int_exponent, nearest::proofs::Cut::cut_plus, nearest::proofs::Cut::cut_minus))]
 pub fn cut(t: u32) -> u32
     ensures { result ≡ (if has_int t then word (cut t) else 0) }

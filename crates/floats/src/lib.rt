@@ -109,6 +109,7 @@ pub fn quotient_f(b: u32, t: u32) -> u32
 }
 
 // CMPF: CMP of the values. With a NaN, which a step refuses, it is 0.
+// Stays: 0 and no None there, since that is what its clause promises, and that of a public function may not change.
 #[tactic(auto, unfolding(rules::specs::Floats::ordered_f))]
 pub fn ordered_f(b: u32, t: u32) -> u32
     ensures { result ≡ ordered_f b t }

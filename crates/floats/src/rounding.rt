@@ -32,7 +32,7 @@ fn closest(n: u64, u: u64) -> u64
 {
     let whole = n / u;
     let twice = n % u * 2;
-    // Stays: a match on the order of the two takes six machine instructions more for each rounding.
+    // Stays: a match on the order of the two has the same three ways, so is no plainer, and takes six machine instructions more for each rounding.
     if twice < u {
         return whole;
     }
@@ -73,6 +73,7 @@ fn sign_of(minus: bool) -> u32
 
 // The bits of a / c, with a minus or without, rounded once: the rules' value, which is the only one that is nearest. Over 0 there is none, and the answer
 // is 0.
+// Stays: 0 and no None there, since that is what its clause promises, and that of a public function may not change.
 pub fn nearest_f(minus: bool, a: u32, c: u32) -> u32
     ensures { (0 < c → (result ≡ nearest_f minus a c) × Rounded minus a c result) × (c ≡ 0 → result ≡ 0) }
 {

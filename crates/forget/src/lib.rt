@@ -22,6 +22,7 @@ fn move_down(history: &mut [u64], free: usize, used: usize)
 
 // Forgets the k oldest kept steps: 10 for a broken table or state, a record in use that is not well formed, or a kept number that is not that of the records in
 // use; then 14 where fewer than k are kept. A refusal changes nothing.
+// Stays: the lent slices one by one, since a struct of them needs a lifetime for each, is taken apart where it comes in and is made anew at each call, and C lends them one by one.
 #[tactic(auto, using(state::proofs::Parts::held), unfolding(rules::specs::Forget::forget, records::specs::Judgements::judgement))]
 pub fn forget(
     p: Program<'_>,

@@ -24,6 +24,7 @@ fn number(formula: &[u8], start: usize) -> Next
     ensures { Stands formula.now (number_from 0 formula.now start) result }
 {
     let mut value = 0;
+    // Stays: by place, since the place is told where the digits end, and the digits are worked out up to there.
     for end in start..formula.len() {
         let b = formula[end];
         if !b.is_ascii_digit() {
@@ -65,6 +66,7 @@ fn token_at(formula: &[u8], start: usize) -> Next
 pub(crate) fn next_token(formula: &[u8], at: usize) -> Next
     ensures { Stands formula.now (tokens_from formula.now at) result }
 {
+    // Stays: a loop, since with `find` three goals stay open that the loop does not have (tried).
     for i in at..formula.len() {
         if formula[i] != b' ' {
             return token_at(formula, i);

@@ -11,9 +11,10 @@
 
 use program::Program;
 use rules::sizes::{IMAGE_SIZE, MAX_PROGRAM};
+use std::io;
 use std::io::{Read, Write};
-use std::{io, str};
 
+mod hex;
 mod say;
 
 // The bytes that are read at most.
@@ -21,8 +22,6 @@ const INPUT_SIZE: usize = 65_536;
 
 // The bytes of an image of the input at most.
 const GIVEN_SIZE: usize = 8;
-
-const HEX: u32 = 16;
 
 // Unpacks an image, and says whether the table is there again.
 fn again<W: Write>(out: &mut W, image: &[u8], table: &[u64]) -> io::Result<()> {
@@ -47,34 +46,22 @@ fn unpack<W: Write>(out: &mut W, image: &[u8], table: &mut [u64]) -> io::Result<
     say::contents(out, table, told, say::PLACE_DIGITS)
 }
 
-// A number in hex.
-fn hex(word: &str) -> u64 {
-    u64::from_str_radix(word, HEX).unwrap_or(0)
-}
-
 // The numbers of a table are a length and the places.
-fn table_case<W: Write>(out: &mut W, kind: &str, numbers: &str) -> io::Result<()> {
-    let mut words = numbers.split_ascii_whitespace();
-    let length = words.next().map_or(0, hex) as usize;
-    let mut table = [0u64; MAX_PROGRAM];
-    for (place, word) in table.iter_mut().zip(words) {
-        *place = hex(word);
-    }
-    let p = Program {
-        table: &table,
-        length,
-    };
+fn table_case<W: Write>(out: &mut W, kind: u8, numbers: &hex::Numbers) -> io::Result<()> {
+    let length = numbers[1] as usize;
+    let table = &numbers[2..];
+    let p = Program { table, length };
     let mut image = [7u8; IMAGE_SIZE];
     match kind {
-        "t" => {
+        b't' => {
             let told = pack(out, p, &mut image)?;
             match image.get(..told) {
-                Some(image) => again(out, image, &table),
+                Some(image) => again(out, image, table),
                 None => Ok(()),
             }
         }
-        "o" => pack(out, p, &mut image[1..]).map(drop),
-        "s" => pack(
+        b'o' => pack(out, p, &mut image[1..]).map(drop),
+        b's' => pack(
             out,
             Program {
                 table: &table[1..],
@@ -88,39 +75,54 @@ fn table_case<W: Write>(out: &mut W, kind: &str, numbers: &str) -> io::Result<()
 }
 
 // The numbers of an image are its bytes.
-fn image_case<W: Write>(out: &mut W, kind: &str, numbers: &str) -> io::Result<()> {
+fn image_case<W: Write>(
+    out: &mut W,
+    kind: u8,
+    numbers: &hex::Numbers,
+    length: usize,
+) -> io::Result<()> {
     let mut image = [0u8; GIVEN_SIZE];
-    for (byte, word) in image.iter_mut().zip(numbers.split_ascii_whitespace()) {
-        *byte = u8::from_str_radix(word, HEX).unwrap_or(0);
+    for (byte, n) in image.iter_mut().zip(&numbers[1..]) {
+        *byte = (*n % 256) as u8;
     }
-    let Some(image) = image.get(..numbers.split_ascii_whitespace().count()) else {
+    let Some(image) = image.get(..length) else {
         return Ok(());
     };
     let mut table = [7u64; MAX_PROGRAM];
     match kind {
-        "v" => unpack(out, image, &mut table[1..]),
-        _ => unpack(out, image, &mut table),
+        b'u' => unpack(out, image, &mut table),
+        _ => unpack(out, image, &mut table[1..]),
     }
 }
 
-// A case: its kind, and its numbers behind the first space.
-fn case<W: Write>(out: &mut W, line: &str) -> io::Result<()> {
-    let (kind, numbers) = line.split_once(' ').unwrap_or((line, ""));
-    match kind {
-        "u" | "v" => image_case(out, kind, numbers)?,
-        _ => table_case(out, kind, numbers)?,
+// A case: the first byte tells its kind, u and all above it an image's. An empty line is none.
+fn case<W: Write>(out: &mut W, line: &[u8]) -> io::Result<()> {
+    let Some(&kind) = line.first() else {
+        return Ok(());
+    };
+    let mut numbers = [0u64; hex::NUMBERS];
+    let count = hex::read(line, &mut numbers);
+    if kind < b'u' {
+        table_case(out, kind, &numbers)?;
+    } else {
+        image_case(out, kind, &numbers, count)?;
     }
     writeln!(out)
 }
 
-// The name of a case on a line, and the case on the next one.
-fn lines<W: Write>(out: &mut W, input: &str) -> io::Result<()> {
-    for (i, line) in input.lines().enumerate() {
-        if i % 2 == 0 {
-            write!(out, "{line}")?;
+// The name of a case on a line, and the case on the next one. What no line's end ends is not read.
+fn lines<W: Write>(out: &mut W, input: &[u8]) -> io::Result<()> {
+    let mut rest = input;
+    let mut is_name = true;
+    while let Some(end) = rest.iter().position(|b| *b == b'\n') {
+        let line = &rest[..end];
+        if is_name {
+            out.write_all(line)?;
         } else {
             case(out, line)?;
         }
+        is_name = !is_name;
+        rest = &rest[end + 1..];
     }
     Ok(())
 }
@@ -129,10 +131,7 @@ fn lines<W: Write>(out: &mut W, input: &str) -> io::Result<()> {
 fn read_lines<R: Read, W: Write>(input: &mut R, out: &mut W) -> io::Result<()> {
     let mut bytes = [0u8; INPUT_SIZE];
     let n = reader::read_full(input, &mut bytes)?;
-    match str::from_utf8(&bytes[..n]) {
-        Ok(text) => lines(out, text),
-        Err(_) => Ok(()),
-    }
+    lines(out, &bytes[..n])
 }
 
 fn main(rt: HostRuntime) -> io::Result<()> {

@@ -12,6 +12,7 @@ fn put_name(out: &mut [u8], at: usize, code: usize) -> usize
     ensures { Put out.old out.new at (name_of code) result }
 {
     let n = program::names::name_length(code);
+    // Stays: byte by byte, since a name is a number (program/src/names.rt) and there is no slice of its bytes.
     for i in 0..n {
         digits::put_byte(out, at, i, program::names::name_byte(code, i));
     }

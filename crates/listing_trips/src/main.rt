@@ -52,12 +52,15 @@ fn trip<W: Write>(out: &mut W, source: &[u8]) -> io::Result<()> {
     }
 }
 
-// The sources of an input, each up to a `;` that ends its line.
+// The sources of an input, each up to a `;` that ends its line: behind it, or behind several, one byte is skipped.
 fn trips<W: Write>(out: &mut W, input: &[u8]) -> io::Result<()> {
     let mut rest = input;
     while let Some(end) = rest.iter().position(|b| *b == b';') {
         trip(out, &rest[..end])?;
-        rest = rest.get(end + 2..).unwrap_or(&[]);
+        let Some(marks) = rest[end..].iter().position(|b| *b != b';') else {
+            break;
+        };
+        rest = &rest[end + marks + 1..];
     }
     Ok(())
 }

@@ -4,7 +4,7 @@ use Prim.Native.Nat.{ℕ}
 use mathlib.Core.Path.{◌≡◌, sym, ap, ◌∙◌}
 use mathlib.Core.List.{List}
 use lib.ListN.{length}
-use Rattle.rules.specs.Cells.{cells}
+use Rattle.rules.specs.Cells.{Cells, cells}
 use Rattle.rules.specs.State.{Memory, memory}
 use Rattle.rules.specs.Decide.{demand}
 use Rattle.rules.specs.Commit.{room_on}

@@ -1,15 +1,17 @@
 -- Where an offset leads, and what the instructions with offsets decide there. Assumes nothing.
-use Rattle.std.specs.Prelude.{Option, Some, None, Err}
-use Prim.Native.Nat.{ℕ, suc, ◌-◌, ◌≤◌}
+use Rattle.std.specs.Prelude.{Option, Some, None, Ok, Err}
+use Prim.Native.Nat.{ℕ, suc, ◌+◌, ◌-◌, ◌^◌, ◌≤◌, ◌<◌}
 use mathlib.Core.Path.{◌≡◌, refl, ap}
-use mathlib.Core.Bool.{false}
+use mathlib.Core.Bool.{true, false}
 use native.Mathlib.Omega.{arith}
 use lib.IntN.{ℤ, pos, negsuc, nat_abs, ◌+ℤ◌}
 use lib.Dec.{ltb}
-use borrow.Author.Tests.{le-ltb, lt-leb, ltb-true}
+use borrow.Author.Tests.{lt-ltb, le-ltb, le-leb, lt-leb, ltb-true, ltb-false}
 use Rattle.rules.proofs.Tests.{by_test}
+use Rattle.rules.proofs.Readings.{signed_plus, signed_minus}
 use Rattle.rules.specs.Words.{signed}
 use Rattle.rules.specs.Tags.{int}
+use Rattle.rules.specs.Effects.{memory_address, moved}
 use Rattle.rules.specs.Decide.{enough}
 use Rattle.rules.specs.Actions.{frame, inside, taken, add_sp}
 use Rattle.machine.specs.Families.{on_operand}

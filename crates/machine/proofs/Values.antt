@@ -1,9 +1,10 @@
 -- An instruction that takes one value or two, by what is decided where they are there: with too few values each is refused with 3. Assumes nothing.
-use Rattle.std.specs.Prelude.{Result, Err}
+use Rattle.std.specs.Prelude.{Result, Ok, Err}
 use Prim.Native.Nat.{ℕ, suc, ◌≤◌, ◌<◌}
 use mathlib.Core.Path.{◌≡◌, refl, sym, ap, ◌∙◌}
+use mathlib.Core.Bool.{true, false}
 use lib.Dec.{leb}
-use borrow.Author.Tests.{lt-leb, leb-true, leb-false}
+use borrow.Author.Tests.{lt-leb, le-leb, leb-true, leb-false}
 use Rattle.rules.specs.Decide.{Action, on_values, decide}
 use Rattle.rules.specs.Step.{in_stack}
 use Rattle.rules.specs.declared.MachineRefusal.{MachineRefusal}

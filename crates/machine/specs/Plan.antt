@@ -5,6 +5,8 @@ use Rattle.rules.specs.Cells.{Cells, cell_at}
 use Rattle.rules.specs.Effects.{Written, nothing, cell, pair, byte, effect}
 use Rattle.rules.specs.Step.{in_stack}
 use Rattle.rules.specs.declared.Cell.{Cell}
+use Rattle.rules.specs.declared.MemoryAddress.{MemoryAddress}
+use Rattle.rules.specs.declared.ProgramAddress.{ProgramAddress}
 use Rattle.rules.specs.declared.Registers.{Registers}
 use Rattle.rules.specs.declared.Effect.{Effect}
 use Rattle.rules.specs.Answers.{Decision}
@@ -18,11 +20,11 @@ below r c k = cell_at c (record { 0 = r.sp - k })
 
 -- ---- the effects, one for each plan, in three groups: no cell is written
 
-abbrev pub jumps : Registers → (sp target : ℕ) → Effect
-jumps r sp target = effect target sp r.fbr 0 nothing
+abbrev pub jumps : Registers → (sp : ℕ) → ProgramAddress → Effect
+jumps r sp target = effect target.0 sp r.fbr 0 nothing
 
-abbrev pub frames : Registers → (sp fbr : ℕ) → Effect
-frames r sp fbr = effect (r.pc + 1) sp fbr 0 nothing
+abbrev pub frames : Registers → (sp : ℕ) → MemoryAddress → Effect
+frames r sp fbr = effect (r.pc + 1) sp fbr.0 0 nothing
 
 abbrev pub halts : Registers → Effect
 halts r = effect r.pc r.sp r.fbr 1 nothing
@@ -32,11 +34,11 @@ halts r = effect r.pc r.sp r.fbr 1 nothing
 abbrev pub pushes : Registers → (at : ℕ) → Cell → Effect
 pushes r at c = effect (r.pc + 1) (at + 1) r.fbr 0 (cell at c)
 
-abbrev pub stores : Registers → Cells → (sp at : ℕ) → Effect
-stores r c sp at = effect (r.pc + 1) sp r.fbr 0 (cell at (below r c 1))
+abbrev pub stores : Registers → Cells → (sp : ℕ) → MemoryAddress → Effect
+stores r c sp at = effect (r.pc + 1) sp r.fbr 0 (cell at.0 (below r c 1))
 
-abbrev pub calls : Registers → (at target : ℕ) → Effect
-calls r at target = effect target (at + 1) r.fbr 0 (cell at (pa (r.pc + 1)))
+abbrev pub calls : Registers → (at : ℕ) → ProgramAddress → Effect
+calls r at target = effect target.0 (at + 1) r.fbr 0 (cell at (pa (r.pc + 1)))
 
 abbrev pub links : Registers → Effect
 links r = effect (r.pc + 1) (r.sp + 1) r.sp 0 (cell r.sp (ma r.fbr))

@@ -106,13 +106,8 @@ pub(crate) fn on_push_off(s: Stack<'_, '_>, offset: u32) -> Planned
 {
     let r = s.r;
     match moved_by(r.fbr, offset) {
-        Some(a) => {
-            if a.0 < r.sp {
-                return plans::pushed(r, s.cell_at(a));
-            }
-            Err(MachineRefusal::BadAddress)
-        }
-        None => Err(MachineRefusal::BadAddress),
+        Some(a) if a.0 < r.sp => plans::pushed(r, s.cell_at(a)),
+        _ => Err(MachineRefusal::BadAddress),
     }
 }
 
@@ -125,12 +120,7 @@ pub(crate) fn on_store_off(r: Registers, offset: u32) -> Planned
         return Err(MachineRefusal::TooFewValues);
     }
     match moved_by(r.fbr, offset) {
-        Some(a) => {
-            if a.0 < r.sp - 1 {
-                return plans::stored(r, 1, a);
-            }
-            Err(MachineRefusal::BadAddress)
-        }
-        None => Err(MachineRefusal::BadAddress),
+        Some(a) if a.0 < r.sp - 1 => plans::stored(r, 1, a),
+        _ => Err(MachineRefusal::BadAddress),
     }
 }

@@ -27,7 +27,7 @@ pub(crate) fn carry(
     requires fits { (e : Effect) → planned r (cells bits.old tags.old) d ≡ Ok e → Fits r e (cells bits.old tags.old) history.old }
     ensures { stepped result bits.new tags.new history.new output.new ≡ carried r (memory bits.old tags.old history.old output.old) (in_history r (in_output r (length output.old) (planned r (cells bits.old tags.old) d))) }
 {
-    // Stays: a commit in each arm, so that each is compiled with what it writes known: with one behind the match a step takes twice as many machine instructions.
+    // Stays: a commit in each arm, so that each is compiled with what it writes known: with one behind the match a step takes twice as many machine instructions (tried).
     match d {
         Err(refusal) => Step::Refused(refusal),
         Ok(Plan::Show { sp, character }) => panel::show(

@@ -1,4 +1,5 @@
 // Cells: one of each tag.
+// Stays: a function for each, as the rules have a definition for each (rules/specs/Tags): with the tag as a parameter a call would name it in two words for one.
 ghost use Rattle.std.specs.Prelude.{◌≡◌};
 ghost use Rattle.rules.specs.Tags.{int, float, ma, pa, ch};
 

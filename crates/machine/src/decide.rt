@@ -23,6 +23,7 @@ use word::logic::{and, nand, nor, not, or, xor};
 use word::tests::{greater, is_neg, is_pos, less, ordered};
 
 // A code with its operand.
+// Stays: a match on the codes, since the table has them as numbers; what an arm does with the values it hands on as a closure.
 fn by_code(code: usize, n: u32, s: Stack<'_, '_>) -> Planned
     requires { code < codes }
     ensures { planned s.entry.r (cells_of s.entry) result ≡ in_stack s.entry.r (decide s.entry.r (cells_of s.entry) n (action_of code)) }
@@ -95,6 +96,7 @@ fn by_code(code: usize, n: u32, s: Stack<'_, '_>) -> Planned
         codes::FTOI => s.one(|top| on_to_int(r, top)),
         codes::PUSHIMMCH => plans::pushed(r, cells::character_cell(n)),
         codes::WRITECH => s.one(|top| on_write_ch(r, top)),
+        // a code is below 54
         _ => unreachable!(),
     }
 }

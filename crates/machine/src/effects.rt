@@ -1,4 +1,4 @@
-// The effect of each plan, as specs/Plan.antt has it. Nothing is written here.
+// The effect of each plan, as specs/Plan.antt has it. Nothing is written here. `Small r` is asked for as in plans.rt.
 ghost use Rattle.std.specs.Prelude.{◌≡◌, ◌-◌, ◌+◌, ◌<◌};
 ghost use Rattle.rules.specs.Effects.{nothing, cell, effect};
 ghost use Rattle.machine.specs.Spans.{cell_span, byte_span};
@@ -9,7 +9,7 @@ ghost use Rattle.machine.specs.Plan.{zeros_at, jumps, moves, frames, halts, push
 use crate::cells;
 use crate::cells::INT_ZERO;
 use crate::stack::Stack;
-use rules::{Cell, Effect, Registers};
+use rules::{Cell, Effect, MemoryAddress, ProgramAddress, Registers};
 
 // No cell is written.
 fn writing_none(pc: usize, sp: usize, fbr: usize, halt: usize) -> Effect
@@ -29,18 +29,18 @@ fn writing_none(pc: usize, sp: usize, fbr: usize, halt: usize) -> Effect
 }
 
 // PC is the planned address.
-pub(crate) fn jumps(r: Registers, sp: usize, target: u32) -> Effect
+pub(crate) fn jumps(r: Registers, sp: usize, target: ProgramAddress) -> Effect
     ensures { result ≡ jumps r sp target }
 {
-    writing_none(target as usize, sp, r.fbr, 0)
+    writing_none(target.0, sp, r.fbr, 0)
 }
 
 // FBR is the address.
-pub(crate) fn frames(r: Registers, sp: usize, fbr: usize) -> Effect
+pub(crate) fn frames(r: Registers, sp: usize, fbr: MemoryAddress) -> Effect
     requires { Small r }
     ensures { result ≡ frames r sp fbr }
 {
-    writing_none(r.pc + 1, sp, fbr, 0)
+    writing_none(r.pc + 1, sp, fbr.0, 0)
 }
 
 // HALT is set.
@@ -55,15 +55,10 @@ fn writing_one(pc: usize, sp: usize, fbr: usize, at: usize, c: Cell) -> Effect
     ensures { result ≡ effect pc sp fbr 0 (cell at c) }
 {
     Effect {
-        pc,
-        sp,
-        fbr,
-        halt: 0,
         at,
         count: 1,
         first: c,
-        second: INT_ZERO,
-        shows: None,
+        ..writing_none(pc, sp, fbr, 0)
     }
 }
 
@@ -76,20 +71,20 @@ pub(crate) fn pushes(r: Registers, at: usize, c: Cell) -> Effect
 }
 
 // The top is stored at the address.
-pub(crate) fn stores(s: Stack<'_, '_>, sp: usize, at: usize) -> Effect
+pub(crate) fn stores(s: Stack<'_, '_>, sp: usize, at: MemoryAddress) -> Effect
     ensures { result ≡ stores s.entry.r (cells_of s.entry) sp at }
 {
-    writing_one(s.r.pc + 1, sp, s.r.fbr, at, s.top())
+    writing_one(s.r.pc + 1, sp, s.r.fbr, at.0, s.top())
 }
 
 // PC is the planned address, and the address after the call is pushed.
-pub(crate) fn calls(r: Registers, at: usize, target: u32) -> Effect
+pub(crate) fn calls(r: Registers, at: usize, target: ProgramAddress) -> Effect
     requires { Small r × (at < cell_span) }
     ensures { result ≡ calls r at target }
 {
     let next = r.pc + 1;
     let c = cells::program_cell(next as u32);
-    writing_one(target as usize, at + 1, r.fbr, at, c)
+    writing_one(target.0, at + 1, r.fbr, at, c)
 }
 
 // The old FBR is pushed, and FBR is the old SP.
@@ -106,15 +101,11 @@ pub(crate) fn swaps(s: Stack<'_, '_>) -> Effect
     ensures { result ≡ swaps s.entry.r (cells_of s.entry) }
 {
     Effect {
-        pc: s.r.pc + 1,
-        sp: s.r.sp,
-        fbr: s.r.fbr,
-        halt: 0,
         at: s.below_sp(2).0,
         count: 2,
         first: s.top(),
         second: s.second(),
-        shows: None,
+        ..writing_none(s.r.pc + 1, s.r.sp, s.r.fbr, 0)
     }
 }
 
@@ -124,15 +115,9 @@ fn writing_zeros(r: Registers, sp: usize, at: usize, count: usize) -> Effect
     ensures { result ≡ effect (r.pc + 1) sp r.fbr 0 (zeros_at at count) }
 {
     Effect {
-        pc: r.pc + 1,
-        sp,
-        fbr: r.fbr,
-        halt: 0,
         at,
         count,
-        first: INT_ZERO,
-        second: INT_ZERO,
-        shows: None,
+        ..writing_none(r.pc + 1, sp, r.fbr, 0)
     }
 }
 
@@ -158,14 +143,7 @@ pub(crate) fn shows(r: Registers, sp: usize, character: u32) -> Effect
     ensures { result ≡ shows r sp character }
 {
     Effect {
-        pc: r.pc + 1,
-        sp,
-        fbr: r.fbr,
-        halt: 0,
-        at: 0,
-        count: 0,
-        first: INT_ZERO,
-        second: INT_ZERO,
         shows: Some(character as u8),
+        ..writing_none(r.pc + 1, sp, r.fbr, 0)
     }
 }

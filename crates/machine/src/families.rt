@@ -77,6 +77,7 @@ pub(crate) fn on_divides(v: u32, r: Registers, below: Cell, top: Cell) -> Planne
 }
 
 // Two FLOATs, and a FLOAT as the result.
+// Stays: the body of `on_ints` with another tag and cell, since one function of a tag would promise for each tag what it means there, which is no plainer.
 pub(crate) fn on_floats(v: u32, r: Registers, below: Cell, top: Cell) -> Planned
     requires { Small r × (2 ≤ r.sp) }
     ensures { Means r result (on_pair (floats (λ b t. v)) r below top) }

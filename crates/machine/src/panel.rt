@@ -30,11 +30,9 @@ pub(crate) fn show(
     if output.len() <= written {
         return Step::Refused(MachineRefusal::OutputFull);
     }
-    match commit::commit(r, effects::shows(r, sp, character), bits, tags, history) {
-        Step::Refused(refusal) => Step::Refused(refusal),
-        Step::Next(registers) => {
-            output[written] = character as u8;
-            Step::Next(registers)
-        }
+    let next = commit::commit(r, effects::shows(r, sp, character), bits, tags, history);
+    if let Step::Next(_) = next {
+        output[written] = character as u8;
     }
+    next
 }

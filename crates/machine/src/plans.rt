@@ -6,18 +6,18 @@ ghost use Rattle.machine.specs.Small.{Small};
 ghost use Rattle.rules.specs.Step.{in_stack};
 ghost use Rattle.machine.specs.Plan.{planned, Means};
 
-use rules::{Cell, MachineRefusal, MemoryAddress, Registers};
+use rules::{Cell, MachineRefusal, MemoryAddress, ProgramAddress, Registers};
 
 // An instruction that is accepted, with what it needs to be carried out: the new SP, an address of cells, a cell to write, a target, a character.
 #[derive(Clone, Copy)]
 pub enum Plan {
-    Jump { sp: usize, target: u32 },
+    Jump { sp: usize, target: ProgramAddress },
     Move { sp: usize, from: usize },
-    Frame { sp: usize, fbr: usize },
+    Frame { sp: usize, fbr: MemoryAddress },
     Halt,
     Push { at: usize, cell: Cell },
-    Store { sp: usize, at: usize },
-    Call { at: usize, target: u32 },
+    Store { sp: usize, at: MemoryAddress },
+    Call { at: usize, target: ProgramAddress },
     Link,
     Swap,
     Fill { sp: usize, from: usize },
@@ -65,7 +65,7 @@ pub(crate) fn stored(r: Registers, popped: usize, a: MemoryAddress) -> Planned
 {
     Ok(Plan::Store {
         sp: r.sp - popped,
-        at: a.0,
+        at: a,
     })
 }
 
@@ -96,7 +96,7 @@ pub(crate) fn framed(r: Registers, a: MemoryAddress) -> Planned
 {
     Ok(Plan::Frame {
         sp: r.sp - 1,
-        fbr: a.0,
+        fbr: a,
     })
 }
 
@@ -118,7 +118,7 @@ pub(crate) fn jumped(r: Registers, popped: usize, target: u32) -> Planned
 {
     Ok(Plan::Jump {
         sp: r.sp - popped,
-        target,
+        target: ProgramAddress(target as usize),
     })
 }
 
@@ -131,7 +131,10 @@ pub(crate) fn called(r: Registers, popped: usize, target: u32) -> Planned
     if r.n <= at + 1 {
         return Err(MachineRefusal::StackFull);
     }
-    Ok(Plan::Call { at, target })
+    Ok(Plan::Call {
+        at,
+        target: ProgramAddress(target as usize),
+    })
 }
 
 // The top is popped, and its bits are shown.

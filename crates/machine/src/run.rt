@@ -14,7 +14,7 @@ use program::Program;
 use rules::{Ending, MachineRefusal, Registers, Run, Step, sizes};
 
 // Stays: the lent slices one by one, here and in all calls that are lent a machine: a struct of them has to have a lifetime for each, is taken apart where it comes in and is made
-// anew at each call that it is handed on to (tried), and C lends them one by one.
+// anew at each call that it is handed on to (tried), and C lends them one by one, bits and tags apart.
 
 // One step of a sound state with HALT 0, neither of which is asked again: 2 to 7 in order, 12 and 8, or what the instruction does.
 fn take_step(

@@ -17,8 +17,7 @@ fn only_step(ran: Run) -> Step
     let ending = ran.ending;
     let registers = ran.registers;
     match ending {
-        Ending::Halted => Step::Next(registers),
-        Ending::LimitReached => Step::Next(registers),
+        Ending::Halted | Ending::LimitReached => Step::Next(registers),
         Ending::Stopped(refusal) => Step::Refused(refusal),
     }
 }

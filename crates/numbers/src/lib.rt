@@ -27,7 +27,7 @@ pub trait Numbered {
 }
 
 // The refusals are declared with their numbers.
-// Stays: ten blocks of one form, since an `impl` that a macro of the repository writes is refused when all is judged (a rule of the project).
+// Stays: ten blocks of one form, since the gate refuses an impl that a macro of this repository writes (a rule of the project).
 impl Numbered for MachineRefusal {
     ghost number = { machine_number };
 

@@ -22,6 +22,7 @@ const MAX_DIGITS: usize = 10;
 const PATTERN_DIGITS: usize = 8;
 
 // What a byte counts for as a digit: 16 where it is none.
+// Stays: 16 and no None, since the definition that it promises says so (digit_of in rules/specs/Operands.antt).
 #[tactic(auto, unfolding(rules::specs::Operands::digit_of))]
 fn digit_of(b: u8) -> u64
     ensures { (result ≡ digit_of b) × (result ≤ 16) }

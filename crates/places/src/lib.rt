@@ -6,6 +6,7 @@ ghost use Rattle.std.specs.Prelude.{◌≡◌, ◌/◌, ◌%◌, ◌<◌};
 ghost use Rattle.rules.specs.Places.{mark, cell_address, cell_tag, cell_bits, cell_zeros, step_pc, step_sp, step_fbr, step_count, step_zeros};
 
 // The mark of a cell place, and that of a step place.
+// Stays: the marks are numbers, since they are bits of a history place, which document 01 names and C lends.
 pub const CELL_MARK: u64 = 0;
 
 pub const STEP_MARK: u64 = 1;

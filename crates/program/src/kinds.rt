@@ -10,7 +10,7 @@ use rules::{Kind, codes, sizes};
 pub fn kind_of(code: usize) -> Kind
     ensures { result ≡ kind_of code }
 {
-    // Stays: with one arm for the codes of a kind, judging a table takes up to six machine instructions more for each place.
+    // Stays: with one arm for the codes of a kind, a place takes up to six machine instructions more (bar: the judging of a table at every call must not cost more than before).
     match code {
         codes::PUSHIMM => Kind::Immediate,
         codes::PUSHIMMF => Kind::Pattern,

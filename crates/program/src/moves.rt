@@ -76,7 +76,7 @@ fn moved_by(operand: u32) -> Moves
 pub fn moves_of(code: usize, operand: u32) -> Moves
     ensures { result ≡ moves_of (action_of code) operand }
 {
-    // Stays: one arm for the codes that move SP alike is no shorter, and the order of the codes is lost.
+    // Stays: an arm for each code, in their order: the 24 codes that join in one arm take as many lines, and the order is lost.
     match code {
         codes::STOP => STAYS,
         codes::PUSHIMM => PUSHES,

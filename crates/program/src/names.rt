@@ -18,6 +18,7 @@ const LETTER_SPAN: u64 = 32;
 const BEFORE_A: u8 = b'A' - 1;
 
 // The word of a code's name: 0 past the last code.
+// Stays: names as numbers, since a table of their bytes is put on the stack anew for each byte that is read of it (docs/PERFORMANCE.md), and a text is compared as one number.
 #[tactic(auto, unfolding(crate::specs::NameWords::word_of, rules::specs::Instructions::name_of, rules::specs::Instructions::names, rules::specs::Instructions::rows, rules::specs::Lists::text))]
 fn name_word(code: usize) -> u64
     ensures { result ≡ word_of (name_of code) }

@@ -16,7 +16,7 @@ pub fn read_full<R: Read>(input: &mut R, buf: &mut [u8]) -> io::Result<usize>
     ensures end { IfOk result (λ n. n < length buf.old → IsAtEnd (R.remaining input.new)) }
 {
     let mut done = 0;
-    // Stays: of the library, `read_exact` takes an early end for an error, and `read_to_end` allocates (a rule of the project).
+    // Stays: a loop, since the library's `read_exact` takes an early end for an error, and `read_to_end` allocates (no heap: a rule of the project).
     while done < buf.len() {
         let n = input.read(&mut buf[done..])?;
         if n == 0 {

@@ -8,6 +8,7 @@ ghost use Rattle.rules.specs.Records.{record_at, cut_down, formed_record};
 ghost use Rattle.records.specs.Judgements.{judgement};
 
 // Whether the record whose step place is place `last` of the history is well formed: it is not where there is no such place.
+// Stays: n and count as two numbers, since a struct of them would be made at each call of numbers that the callers have in the registers and the program, and be no plainer.
 #[tactic(auto, using(crate::proofs::Formed::record_outside))]
 pub fn is_formed_record(history: &[u64], last: usize, n: usize, count: usize) -> bool
     ensures { result ≡ formed_record n count (record_at last history.now) }
@@ -35,6 +36,7 @@ pub fn judge(
     let mut passed = 0;
     let mut below = used;
     // Each turn passes the record on top of the places left.
+    // Stays: a record is jumped over as a whole, which a `for` can't do.
     while 0 < left {
         let last = left - 1;
         if !is_formed_record(history, last, n, count) {

@@ -1,4 +1,5 @@
 // The codes of the instructions: "Codes in order from 0", and those of request e.
+// Stays: numbers and no enum, since any number may stand in lent memory, and the definitions speak of numbers.
 pub const STOP: usize = 0;
 
 pub const PUSHIMM: usize = 1;

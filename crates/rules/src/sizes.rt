@@ -26,6 +26,7 @@ pub const MAX_CHARACTER: u32 = 127;
 pub const MAX_LIMIT: usize = 1_000_000;
 
 // the mark "not reached" in a list of depths (02 j)
+// Stays: a mark and no None, since C lends a list of depths as numbers, and request j names the mark.
 pub const NOT_REACHED: u16 = 65_535;
 
 // "Listing: 20,480 bytes", "Output 4,866 bytes"

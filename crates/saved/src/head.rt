@@ -1,5 +1,5 @@
 // The registers that a saved state holds, side by side in one number: N 10 bits, PC 11, SP 10, FBR 10, HALT 1, output count 9; and a cell in one: tag 3, bits 32.
-// Stays: in one number, since request k's image of a state is these bits side by side.
+// Stays: in one number: by a `put` and a `get` for each register all six have a start to be named beside their width, which is no plainer.
 ghost use Rattle.std.specs.Prelude.{◌≡◌, [], ◌∷◌};
 ghost use Rattle.rules.specs.Fields.{field, value, side};
 ghost use Rattle.rules.specs.SavedState.{head_layout, head_of, head_width, saved_cell_layout, saved_cell_width, registers_in};

@@ -20,6 +20,7 @@ ghost use Rattle.program.specs.Lent.{program_of};
 ghost use Rattle.saved.specs.Outcomes.{saving, loading};
 
 // Saves a machine's state: the image, then zeros, and its length told.
+// Stays: the lent slices one by one, since a struct of them needs a lifetime for each, is taken apart where it comes in and is made anew at each call, and C lends them one by one.
 pub fn save(
     p: Program<'_>,
     r: Registers,

@@ -97,7 +97,7 @@ impl<'a> StateImage<'a> {
         ensures bits { bits.new ≡ (cells_in self.now.registers.n (bits_of self.now.image.now)).bits }
         ensures tags { tags.new ≡ (cells_in self.now.registers.n (bits_of self.now.image.now)).tags }
     {
-        // Stays: by index, since of a zip of two `iter_mut`s a proof learns the lengths and no element.
+        // Stays: by index: of a zip of two `iter_mut`s a proof learns no element (tried), and a loop for each slice would read each cell twice.
         for i in 0..self.registers.n {
             let cell = self.cell(i);
             bits[i] = cell.bits;

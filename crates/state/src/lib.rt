@@ -22,6 +22,7 @@ pub struct Lengths {
 }
 
 impl Lengths {
+    // Stays: the lent slices one by one, since a struct of them needs a lifetime for each, is taken apart where it comes in and is made anew at each call, and C lends them one by one.
     // Those of these slices.
     pub fn of(bits: &[u32], tags: &[u8], history: &[u64], output: &[u8]) -> Lengths
         ensures { result ≡ lengths bits.now tags.now history.now output.now }
@@ -103,7 +104,7 @@ fn are_sound_cells(count: usize, tags: &[u8], bits: &[u32]) -> bool
     requires { length tags.now ≡ length bits.now }
     ensures { result ≡ sound_cells count tags.now bits.now }
 {
-    // Stays a loop: with `zip` and `all` a cell takes eight machine instructions at each call, and not six.
+    // Stays: a loop, since with `zip` and `all` a cell takes eight machine instructions and not six (bar: the judging of a state at every call must not cost more than before).
     for (cell, tag) in tags.iter().enumerate() {
         if !is_sound_cell(count, *tag, bits[cell]) {
             return false;
@@ -113,6 +114,7 @@ fn are_sound_cells(count: usize, tags: &[u8], bits: &[u32]) -> bool
 }
 
 // Whether a program, registers and lent slices of these lengths are within the ranges that each call asks for that is handed registers: all but the cells.
+#[inline(always)]
 pub fn is_in_range(p: Program<'_>, r: Registers, lent: Lengths) -> bool
     ensures { result ≡ every (range_tests (program_of p.entry) r lent.bits lent.tags lent.history lent.output) }
 {
@@ -123,7 +125,9 @@ pub fn is_in_range(p: Program<'_>, r: Registers, lent: Lengths) -> bool
 }
 
 // Whether a program, registers and lent slices are what the calls that are handed registers take: where not, they answer 10.
+// Inlined, with what it asks first: so that no call copies the registers once more on the stack, whose bounds include/sam.h has.
 #[tactic(auto, using(crate::proofs::Parts::sound_parts))]
+#[inline(always)]
 pub fn is_sound(
     p: Program<'_>,
     r: Registers,

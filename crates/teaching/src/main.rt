@@ -12,16 +12,19 @@ mod show;
 // The bytes that are read at most.
 const INPUT_SIZE: usize = 65_536;
 
-// Shows the programs of an input, each behind the one before it.
+// Shows the programs of an input, each behind the one before it. A program's name begins behind the last `~` before the line's end.
 fn programs<W: Write>(out: &mut W, input: &[u8]) -> io::Result<()> {
     let mut rest = input;
-    while let Some(mark) = rest.iter().position(|b| *b == b'~') {
-        let (source, named) = (&rest[..mark], &rest[mark + 1..]);
-        let Some(end) = named.iter().position(|b| *b == b'\n') else {
+    while let Some(first) = rest.iter().position(|b| *b == b'~') {
+        let Some(length) = rest[first..].iter().position(|b| *b == b'\n') else {
             break;
         };
-        show::show(out, &named[..end], source)?;
-        rest = &named[end + 1..];
+        let (program, behind) = rest.split_at(first + length);
+        let Some(mark) = program.iter().rposition(|b| *b == b'~') else {
+            break;
+        };
+        show::show(out, &program[mark + 1..], &program[..mark])?;
+        rest = &behind[1..];
     }
     Ok(())
 }

@@ -19,6 +19,7 @@ pub struct Token {
 fn is_blank(b: u8) -> bool
     ensures { result ≡ blank b }
 {
+    // Stays: with `matches!` a byte takes two machine instructions more (bar: assembling must not cost more than before).
     b == b' ' || b == b'\t' || b == b'\r' || b == b'\n'
 }
 
@@ -46,6 +47,7 @@ fn comment_end(src: &[u8], at: usize) -> usize
     requires { at ≤ length src.now }
     ensures { Closed src.now at result }
 {
+    // Stays: a loop, since with `position` two goals stay open that the loop does not have (tried).
     for i in at..src.len() {
         if src[i] == b'\n' {
             return i + 1;
@@ -61,7 +63,7 @@ fn skip(src: &[u8], at: usize) -> usize
     ensures { Skipped src.now at result }
 {
     let mut i = at;
-    // Stays: a `for` would be no plainer, since a comment is jumped over.
+    // Stays: a comment is jumped over, which a `for` can't do.
     while i < src.len() {
         if is_blank(src[i]) {
             i += 1;
@@ -79,6 +81,7 @@ fn token_end(src: &[u8], at: usize) -> usize
     requires { (at < length src.now) × (stops (drop at src.now) ≡ false) }
     ensures { Ended src.now at result }
 {
+    // Stays: by place, since each turn reads the byte before the place too.
     for i in at + 1..src.len() {
         if src[i - 1] == b':' || stops_at(src, i) {
             return i;

@@ -52,6 +52,7 @@ fn newest(table: &[u64], history: &[u64], used: usize, cell: usize) -> Option<Na
 }
 
 // Names the newest kept step that wrote a cell: 10 as for a forget, then 6 where the cell is not below N. It writes nothing.
+// Stays: the lent slices one by one, since a struct of them needs a lifetime for each, is taken apart where it comes in and is made anew at each call, and C lends them one by one.
 #[tactic(auto, using(state::proofs::Parts::held), unfolding(rules::specs::Why::why, records::specs::Judgements::judgement))]
 pub fn why(
     p: Program<'_>,

@@ -50,7 +50,7 @@ pub fn minus_in_word(b: u32, t: u32) -> bool
 }
 
 // TIMES: the product, modulo 2^32, by halves of 16 bits. The product of the upper halves is a multiple of 2^32.
-// Stays: document 01 names the form, "TIMES is a wrapping helper over halves".
+// Stays: document 01 names this form (docs/DECISIONS.md, "The forms of document 01"): TIMES over halves of 16 bits.
 pub fn times(b: u32, t: u32) -> u32
     ensures { result ≡ times b t }
 {
@@ -61,13 +61,14 @@ pub fn times(b: u32, t: u32) -> u32
 }
 
 // DIV: the quotient toward zero. -2^31 by -1 is 2^31, whose bits are those of -2^31. By zero, which a step refuses, it is 0.
+// Stays: 0 and no None by zero, since that is what its clause promises there, and that of a public function may not change.
 pub fn quotient(b: u32, t: u32) -> u32
     ensures { result ≡ quotient b t }
 {
     if t == 0 {
         return 0;
     }
-    // Stays: document 01 names the form, "the one overflowing pair handled before the operation"; and so below.
+    // Stays: document 01 names this form (docs/DECISIONS.md, "The forms of document 01"): -2^31 by -1 is asked before the division, here and in MOD.
     if b == words::LOWEST && t == words::MINUS_ONE {
         return words::LOWEST;
     }
@@ -75,6 +76,7 @@ pub fn quotient(b: u32, t: u32) -> u32
 }
 
 // MOD: the remainder, with the dividend's sign. -2^31 by -1 leaves 0. By zero, which a step refuses, it is the dividend.
+// Stays: the dividend and no None by zero, since that is what its clause promises there, and that of a public function may not change.
 pub fn remainder(b: u32, t: u32) -> u32
     ensures { result ≡ remainder b t }
 {

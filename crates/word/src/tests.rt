@@ -1,4 +1,4 @@
-// Tests of words: CMP, GREATER, LESS, ISPOS, ISNEG, and what JUMPC asks. An answer that is pushed is 0 or 1.
+// Tests of words: CMP, GREATER, LESS, ISPOS and ISNEG. An answer that is pushed is 0 or 1.
 ghost use Rattle.std.specs.Prelude.{◌≡◌};
 ghost use Rattle.rules.specs.Words.{bit, holds, less, sense, ordered};
 
@@ -20,7 +20,7 @@ pub fn holds(b: u32) -> bool
 }
 
 // Whether the number of b is below that of t.
-pub(crate) fn below(b: u32, t: u32) -> bool
+fn below(b: u32, t: u32) -> bool
     ensures { result ≡ less b t }
 {
     signed(b) < signed(t)

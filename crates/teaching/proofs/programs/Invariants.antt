@@ -2,5 +2,5 @@
 use Rattle.std.proofs.Common.{length}
 use Rattle.teaching.proofs.programs.Given as goal
 
-abbrev pub decreases-loop-mark : goal.decreases-loop-mark
-decreases-loop-mark g l = length l.rest
+abbrev pub decreases-loop-first : goal.decreases-loop-first
+decreases-loop-first g l = length l.rest

@@ -3,16 +3,16 @@ use Rattle.machine.specs.Plan.{planned}
 use Rattle.machine.proofs.Reach.{frame_out, frame_below}
 use Rattle.machine.proofs.addresses.on_push_off.Goals as goal
 
-pub returns-else-a-r : goal.returns-else-a-r
+pub returns-in_default : goal.returns-in_default
 unfolding planned
-returns-else-a-r c m =
-    let a = c.args in
+returns-in_default c m =
+    let s = c.args.s in
     let leads = rw c.in-Some.is at c.moved_by.ensures in
-    rw (frame_out a.s.r a.offset a.s.r.sp c.in-Some.a leads c.if-a-r.false)
+    rw (frame_out s.r c.args.offset s.r.sp c.in-Some.a leads c.if-a-r.false)
 
-pub returns-in-None : goal.returns-in-None
+pub returns-in_default-2 : goal.returns-in_default-2
 unfolding planned
-returns-in-None c m =
-    let a = c.args in
-    let leads = rw c.in-None.is at c.moved_by.ensures in
-    rw (frame_below a.s.r a.offset a.s.r.sp leads)
+returns-in_default-2 c m =
+    let s = c.args.s in
+    let leads = rw c.in_default.is at c.moved_by.ensures in
+    rw (frame_below s.r c.args.offset s.r.sp leads)

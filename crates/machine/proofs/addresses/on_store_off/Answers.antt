@@ -9,16 +9,16 @@ pub returns-then-r-lt1 : goal.returns-then-r-lt1
 unfolding planned
 returns-then-r-lt1 c m = rw (lt-leb _ _ c.if-r-lt1.true)
 
-pub returns-else-a-r : goal.returns-else-a-r
+pub returns-in_default : goal.returns-in_default
 unfolding planned
-returns-else-a-r c m =
+returns-in_default c m =
     let a = c.args in
     let leads = rw c.in-Some.is at c.moved_by.ensures in
     rw (le-leb _ _ c.if-r-lt1.false, frame_out a.r a.offset (a.r.sp - 1) c.in-Some.a leads c.if-a-r.false)
 
-pub returns-in-None : goal.returns-in-None
+pub returns-in_default-2 : goal.returns-in_default-2
 unfolding planned
-returns-in-None c m =
+returns-in_default-2 c m =
     let a = c.args in
-    let leads = rw c.in-None.is at c.moved_by.ensures in
+    let leads = rw c.in_default.is at c.moved_by.ensures in
     rw (le-leb _ _ c.if-r-lt1.false, frame_below a.r a.offset (a.r.sp - 1) leads)
