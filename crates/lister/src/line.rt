@@ -1,6 +1,6 @@
-// One line of a listing, byte by byte.
-ghost use Rattle.std.specs.Prelude.{◌≡◌, ◌≤◌, length};
-ghost use Rattle.rules.specs.Sizes.{listing_size};
+// One line of a listing, byte by byte. A listing is a source, so that no place in it is past the longest one's end.
+ghost use Rattle.std.specs.Prelude.{◌≡◌, ◌<◌, ◌≤◌, length};
+ghost use Rattle.rules.specs.Sizes.{listing_size, max_source};
 ghost use Rattle.rules.specs.Instructions.{name_of};
 ghost use Rattle.rules.specs.Listing.{operand_text, spaced, line_of};
 ghost use Rattle.digits.specs.Put.{Put};
@@ -22,7 +22,7 @@ fn put_name(out: &mut [u8], at: usize, code: usize) -> usize
 // Writes an operand, of which some instructions have none: a signed number, the bits of a FLOAT, or a number without a sign.
 #[tactic(auto, using(rules::proofs::Texts::length_hex))]
 fn put_operand(out: &mut [u8], at: usize, kind: Kind, v: u32) -> usize
-    requires { at ≤ 32769 }
+    requires { at ≤ max_source }
     ensures { Put out.old out.new at (operand_text kind v) result }
 {
     match kind {
@@ -39,7 +39,7 @@ fn put_operand(out: &mut [u8], at: usize, kind: Kind, v: u32) -> usize
 // Writes what follows a name: nothing, or a space and the operand.
 #[tactic(auto, using(crate::proofs::Writing::operand_short))]
 fn put_spaced(out: &mut [u8], at: usize, kind: Kind, v: u32) -> usize
-    requires { at ≤ 32768 }
+    requires { at < max_source }
     ensures { Put out.old out.new at (spaced (operand_text kind v)) result }
 {
     match kind {
