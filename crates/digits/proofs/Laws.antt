@@ -1,12 +1,17 @@
 -- Texts written after texts, a byte before and a byte after, and a text over zeros. Assumes nothing.
-use Prim.Native.Nat.{ℕ, suc, ◌+◌, ◌-◌, ◌≤◌, ◌<◌}
-use mathlib.Core.Path.{◌≡◌, refl, ap, ◌∙◌}
+use Prim.Native.Nat.{ℕ, zero, suc, ◌+◌, ◌-◌, ◌≤◌, ◌<◌}
+use mathlib.Core.Path.{◌≡◌, refl, sym, ap, ◌∙◌}
 use mathlib.Core.List.{List, [], ◌∷◌, ◌++◌}
-use native.Mathlib.Nat.{add-zero, zero-add}
+use native.Mathlib.Nat.{add-zero, zero-add, min-le_left, eq-or-lt_of_le}
+use Rattle.std.proofs.Common.{min, ◌⊎◌, inl, inr}
 use native.Mathlib.Numerals.{add-one}
 use native.Mathlib.Omega.{arith}
 use lib.ListN.{length, take, get_or, set, replicate, length-append, length-replicate}
 use lib.Seq.{sets, take-suc, length-take-le}
+use Rattle.std.proofs.Math.Seq.{length-sets}
+use Rattle.std.proofs.lemmas.List.{set_past}
+use Rattle.rules.specs.Listing.{hex, hex_byte}
+use Rattle.rules.proofs.Texts.{length_hex}
 use Rattle.rules.proofs.Zeros.{drop_zeros}
 use Rattle.rules.proofs.Splice.{sets_splice}
 use Rattle.digits.specs.Put.{Put}
@@ -49,3 +54,25 @@ put_zeros {n} {r} {new} {t} h p =
     p.written
     ∙ sets_splice t (replicate n 0) 0 (rw (zero-add, length-replicate) h)
     ∙ ap (λ (l : List ℕ). t ++ l) (rw zero-add (drop_zeros (length t) n))
+
+-- one hex zero more, and as many as the lent bytes have room for
+pub hex_zero_more : (l : List ℕ) (at k : ℕ) → set (sets l at (hex k 0)) (at + k) 48 ≡ sets l at (hex (k + 1) 0)
+unfolding hex hex_byte
+hex_zero_more l at k =
+    let e : hex (suc k) 0 ≡ hex k 0 ++ 48 ∷ [] = refl in
+    rw (add-one, e) (rw (length_hex k 0) at (sets_append l (hex k 0) (48 ∷ []) at))
+
+pub hex_zeros_in : (l : List ℕ) (at k : ℕ) → sets l at (hex k 0) ≡ sets l at (hex (min k (length l)) 0)
+hex_zeros_in l at zero = ap (λ (m : ℕ). sets l at (hex m 0)) (omega arith)
+hex_zeros_in l at (suc k) = go (hex_zeros_in l at k) (eq-or-lt_of_le (min-le_left (suc k) (length l)))
+  where
+    go : sets l at (hex k 0) ≡ sets l at (hex (min k (length l)) 0) → (min (suc k) (length l) ≡ suc k) ⊎ (min (suc k) (length l) < suc k)
+        → sets l at (hex (suc k) 0) ≡ sets l at (hex (min (suc k) (length l)) 0)
+    go before (inl e) = rw e refl
+    go before (inr h) =
+        let past : length l ≤ k = omega arith in
+        let same : min (suc k) (length l) ≡ min k (length l) = omega arith in
+        let more : set (sets l at (hex k 0)) (at + k) 48 ≡ sets l at (hex (suc k) 0) = hex_zero_more l at k ∙ ap (λ (m : ℕ). sets l at (hex m 0)) (add-one k) in
+        let left_out : set (sets l at (hex k 0)) (at + k) 48 ≡ sets l at (hex k 0) =
+        set_past (sets l at (hex k 0)) (at + k) 48 (omega (arith, length-sets l at (hex k 0))) in
+        rw same (sym more ∙ left_out ∙ before)

@@ -79,10 +79,23 @@ fn hex_byte(digit: u32) -> u8
     }
 }
 
-// Writes the last `k` hex digits of `n`.
+// Writes `k` hex zeros: it looks no further than the slice goes, however large `k` is.
+fn put_hex_zeros(out: &mut [u8], at: usize, k: usize) -> usize
+    ensures { Put out.old out.new at (hex k 0) result }
+{
+    for i in 0..k.min(out.len()) {
+        put_byte(out, at, i, b'0');
+    }
+    k
+}
+
+// Writes the last `k` hex digits of `n`. Behind eight of them nothing is left of a number of 32 bits, so that it calls itself eight times at most.
 pub fn put_hex(out: &mut [u8], at: usize, n: u32, k: usize) -> usize
     ensures { Put out.old out.new at (hex k n) result }
 {
+    if n == 0 {
+        return put_hex_zeros(out, at, k);
+    }
     if k > 0 {
         let before = put_hex(out, at, n / HEX, k - 1);
         put_byte(out, at, before, hex_byte(n % HEX));

@@ -8,6 +8,9 @@ use Rattle.rules.proofs.Texts as texts
 use Rattle.digits.proofs.Laws as law
 use Rattle.digits.proofs.+put_hex.Goals as goal
 
+pub returns-then-n-eq0 : goal.returns-then-n-eq0
+returns-then-n-eq0 t c = rw (c.if-n-eq0.true) c.put_hex_zeros.ensures
+
 pub returns-then-k-gt0 : goal.returns-then-k-gt0
 returns-then-k-gt0 t c =
     let a = c.args in
