@@ -6,7 +6,7 @@ pub mod moves;
 pub mod names;
 pub mod table;
 
-ghost use Rattle.std.specs.Prelude.{◌≡◌, take, drop};
+ghost use Rattle.std.specs.Prelude.{◌≡◌, ◌≤◌, length, take, drop};
 ghost use Rattle.std.specs.List.{list_all};
 ghost use Rattle.rules.specs.Table.{sound_place, is_zero, sound_table};
 ghost use Rattle.program.specs.Lent.{program_of};
@@ -24,19 +24,21 @@ pub struct Program<'a> {
 impl Program<'_> {
     // Whether each used place can be assembled.
     fn used_are_sound(self) -> bool
+        requires { self.length ≤ length self.table.now }
         ensures { result ≡ list_all (sound_place self.entry.length) (take self.entry.length self.entry.table.now) }
     {
-        self.table
+        self.table[..self.length]
             .iter()
-            .take(self.length)
             .all(|place| is_sound_place(self.length, *place))
     }
 
     // Whether each unused place is zero.
     fn unused_are_zero(self) -> bool
+        requires { self.length ≤ length self.table.now }
         ensures { result ≡ list_all is_zero (drop self.entry.length self.entry.table.now) }
     {
-        self.table.iter().skip(self.length).all(|place| *place == 0)
+        let (_, unused) = self.table.split_at(self.length);
+        unused.iter().all(|place| *place == 0)
     }
 
     // Whether the table is one that the assembler could make, with `length` instructions.

@@ -68,6 +68,8 @@ impl<'a> StateImage<'a> {
     }
 
     // Whether it is a state that a step takes, in this program and beside an output of this length.
+    // Not inlined: in a function that answers an image the loops over the table and the cells would set each part of a refusal's answer at each turn.
+    #[inline(never)]
     pub(crate) fn is_sound(&self, p: Program<'_>, output: usize) -> bool
         ensures { result ≡ (every (range_tests (program_of p.entry) self.now.registers self.now.registers.n self.now.registers.n self.now.registers.h output) && sound_cells p.entry.length (cells_in self.now.registers.n (bits_of self.now.image.now)).tags (cells_in self.now.registers.n (bits_of self.now.image.now)).bits) }
     {
