@@ -1,9 +1,10 @@
--- The bitwise instructions go bit by bit: bit k of the result is the logic instruction's operation on bits k of the operands. Assumes nothing.
-use Rattle.std.proofs.Common.{◌≡◌, ℕ, zero, suc, ◌+◌, ◌-◌, ◌/◌, ◌%◌, ◌^◌, ◌<◌, min, max, Bool, true, false, not, ◌&&◌, ◌||◌, refl, ap, ◌∙◌, arith, w32}
-use Rattle.std.proofs.lemmas.Nat.Bits.{bit_at_and, bit_at_or, bit_at_xor, bit_at_not, bit_at-lt}
+-- The bitwise instructions go bit by bit: bit k of the result is the logic instruction's operation on bits k of the operands, and the bits of
+-- a word determine it. Assumes nothing.
+use Rattle.std.proofs.Common.{◌≡◌, ℕ, zero, suc, ◌+◌, ◌-◌, ◌/◌, ◌%◌, ◌^◌, ◌<◌, min, max, Bool, true, false, not, ◌&&◌, ◌||◌, sym, refl, ap, ◌∙◌, arith, w32}
+use Rattle.std.proofs.lemmas.Nat.Bits.{bit_at_and, bit_at_or, bit_at_xor, bit_at_not, bit_at-lt, same_from_bits_below}
 use Rattle.std.specs.Int as num
 use lib.Bits.{bit_and, bit_or, bit_xor, and_lt, or_lt}
-use Rattle.rules.specs.Words.{holds, nand, nor, unlike, bit_not, bit_nand, bit_nor}
+use Rattle.rules.specs.Words.{bit, holds, nand, nor, unlike, bit_not, bit_nand, bit_nor}
 
 -- bit k of a word, the lowest being bit 0
 abbrev pub bit_at : ℕ → ℕ → Bool
@@ -57,3 +58,19 @@ bit_nand_bits = negated bit_and ◌&&◌ bit_and_bits (and_lt 32)
 
 pub bit_nor_bits : BitByBit bit_nor nor
 bit_nor_bits = negated bit_or ◌||◌ bit_or_bits (or_lt 32)
+
+-- ---- the bits of a word determine it, at any width
+
+-- a bit is determined by its truth
+same_bit : (x y : ℕ) → x < 2 → y < 2 → holds x ≡ holds y → x ≡ y
+same_bit x y p q e = bit_holds x p ∙ ap bit e ∙ sym (bit_holds y q)
+  where
+    bit_holds : (x : ℕ) → x < 2 → x ≡ bit (holds x)
+    bit_holds zero p = refl
+    bit_holds (suc zero) p = refl
+    bit_holds (suc (suc x)) p = absurd (omega arith)
+
+pub same_bits : (w m n : ℕ) → m < 2 ^ w → n < 2 ^ w → ((k : ℕ) → k < w → bit_at m k ≡ bit_at n k) → m ≡ n
+same_bits w m n p q e =
+    same_from_bits_below w m n p q
+    (λ (k : ℕ) (h : k < w). same_bit (num.bit_at m k) (num.bit_at n k) (bit_at-lt m k) (bit_at-lt n k) (e k h))

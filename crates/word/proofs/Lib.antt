@@ -2,3 +2,4 @@
 pub mod Natural
 pub mod Bitwise
 pub mod Halves
+pub mod Unlike

@@ -43,14 +43,22 @@ module _ (b t : ℕ) (hb : b < 2 ^ 32) (ht : t < 2 ^ 32) where
 
 -- ---- quotients and remainders of numbers
 
+-- the quotient times the divisor and the remainder make the dividend
+pub quot_rem : (x y : ℤ) → quot_z x y *ℤ y +ℤ rem_z x y ≡ x
+quot_rem = quot-rem
+
 -- the remainder is zero or has the dividend's sign
-rem_sign : (x y : ℤ) → (rem_z x y ≡ pos 0) ⊎ (non_neg (rem_z x y) ≡ non_neg x)
+pub rem_sign : (x y : ℤ) → (rem_z x y ≡ pos 0) ⊎ (non_neg (rem_z x y) ≡ non_neg x)
 rem_sign (pos a) y = inr refl
 rem_sign (negsuc a) y = go (suc a % nat_abs y)
   where
     go : (r : ℕ) → (neg_ℤ (pos r) ≡ pos 0) ⊎ (non_neg (neg_ℤ (pos r)) ≡ non_neg (negsuc a))
     go zero = inl refl
     go (suc r) = inr refl
+
+-- the remainder is smaller than the divisor, so that the quotient is the one toward zero
+pub rem_small : (x y : ℤ) → 0 < nat_abs y → nat_abs (rem_z x y) < nat_abs y
+rem_small = rem_below
 
 mag_neg : (q : ℕ) {a : ℕ} → q ≤ suc a → mag (neg_ℤ (pos q)) ≤ a
 mag_neg zero h = zero-le
@@ -81,16 +89,15 @@ lowest_remainder = refl
 
 module _ (b t : ℕ) (hb : b < 2 ^ 32) (ht : t < 2 ^ 32) where
   -- the remainder that MOD leaves is that of the numbers
-  remainder_signed : signed (remainder b t) ≡ rem_z (signed b) (signed t)
+  pub remainder_signed : signed (remainder b t) ≡ rem_z (signed b) (signed t)
   remainder_signed = signed_word (rem_z (signed b) (signed t)) (lt_of_le_of_lt (mag_rem (signed b) (signed t)) (signed_fits b).sfits)
 
   -- "MOD has the dividend's sign", or is zero
   pub remainder_sign : (signed (remainder b t) ≡ pos 0) ⊎ (non_neg (signed (remainder b t)) ≡ non_neg (signed b))
   remainder_sign = rw remainder_signed (rem_sign (signed b) (signed t))
 
-  -- so that the quotient is the one toward zero
   pub remainder_small : (t ≡ 0 → ⊥) → nat_abs (signed (remainder b t)) < nat_abs (signed t)
-  remainder_small nz = rw remainder_signed (rem_below (signed b) (signed t) (go (signed t) refl))
+  remainder_small nz = rw remainder_signed (rem_small (signed b) (signed t) (go (signed t) refl))
     where
       go : (y : ℤ) → signed t ≡ y → 0 < nat_abs y
       go (pos zero) e = absurd (nz (signed_same t 0 ht (omega arith) e))
@@ -109,12 +116,12 @@ module _ (b t : ℕ) (hb : b < 2 ^ 32) (ht : t < 2 ^ 32) where
       wrapping_add-bits w32 p (remainder b t) (omega arith) (word_below r)
       ∙ ap₂ (λ (x y : ℤ). int_wrap w32 (x +ℤ y)) product (signed_word_wrap r)
       ∙ int_wrap-add_left w32 (q *ℤ signed t) (int_wrap w32 r) ∙ int_wrap-add_right w32 (q *ℤ signed t) r
-      ∙ ap (int_wrap w32) (quot-rem (signed b) (signed t)) ∙ int_wrap_fits w32 (signed b) (signed_fits b) in
+      ∙ ap (int_wrap w32) (quot_rem (signed b) (signed t)) ∙ int_wrap_fits w32 (signed b) (signed_fits b) in
       signed_same ((p + remainder b t) % 2 ^ 32) b (omega arith) hb whole
 
   -- and of the numbers at any two but the overflowing pair
   module _ (ne : b ≡ 2 ^ 31 → t ≡ 2 ^ 32 - 1 → ⊥) where
-    quotient_signed : signed (quotient b t) ≡ quot_z (signed b) (signed t)
+    pub quotient_signed : signed (quotient b t) ≡ quot_z (signed b) (signed t)
     quotient_signed =
         signed_word (quot_z (signed b) (signed t))
         (quot_fits (signed b) (signed t) (signed_fits b).sfits
@@ -123,4 +130,4 @@ module _ (b t : ℕ) (hb : b < 2 ^ 32) (ht : t < 2 ^ 32) where
 
     pub divides_natural : signed (quotient b t) *ℤ signed t +ℤ signed (remainder b t) ≡ signed b
     divides_natural =
-        ap₂ (λ (x y : ℤ). x *ℤ signed t +ℤ y) quotient_signed remainder_signed ∙ quot-rem (signed b) (signed t)
+        ap₂ (λ (x y : ℤ). x *ℤ signed t +ℤ y) quotient_signed remainder_signed ∙ quot_rem (signed b) (signed t)
