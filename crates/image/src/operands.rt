@@ -26,6 +26,13 @@ pub(crate) fn width_of(kind: Kind) -> usize
     }
 }
 
+// What a code counts for in a field, with the bits of an operand of the kind behind it.
+pub(crate) fn span_of(kind: Kind) -> u64
+    ensures { result ≡ 2 ^ width_of kind }
+{
+    1u64 << width_of(kind)
+}
+
 // The 32 bits in a table of an operand that an image has as the number v: an offset's sign goes on to the left.
 pub(crate) fn table_bits(kind: Kind, v: u32) -> u32
     requires { v < 2 ^ width_of kind }

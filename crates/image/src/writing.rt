@@ -8,7 +8,7 @@ ghost use Rattle.rules.specs.Image.{code_width, width_of, instruction_bits, imag
 ghost use Rattle.program.specs.Lent.{program_of};
 ghost use Rattle.image.specs.Longest.{longest};
 
-use crate::operands::{CODE_WIDTH, COUNT_WIDTH, width_of};
+use crate::operands::{CODE_WIDTH, COUNT_WIDTH, span_of, width_of};
 use fields::put;
 use program::Program;
 use program::kinds::kind_of;
@@ -21,8 +21,9 @@ fn put_instruction(image: &mut [u8], at: usize, place: u64) -> usize
     ensures next { result ≡ at + length (instruction_bits place) }
 {
     let code = code_of(place);
-    let width = width_of(kind_of(code));
-    let span = 1u64 << width;
+    let kind = kind_of(code);
+    let width = width_of(kind);
+    let span = span_of(kind);
     let bits = code as u64 * span + operand_of(place) as u64 % span;
     put(image, at, CODE_WIDTH + width, bits);
     at + CODE_WIDTH + width

@@ -1,5 +1,5 @@
 -- One field, inside the image. Assumes nothing.
-use Rattle.std.proofs.Common.{◌≡◌, ◌+◌, ◌*◌, ◌%◌, ◌^◌, ◌≤◌, rules, ℕ, length, ◌∙◌, ap, arith}
+use Rattle.std.proofs.Common.{◌≡◌, ◌+◌, ◌*◌, ◌%◌, ◌^◌, ◌≤◌, rules, ℕ, length, ◌∙◌, ap, sym, arith}
 use Rattle.rules.specs.Lists.{splice}
 use Rattle.rules.specs.Fields.{field, bits_of}
 use Rattle.rules.specs.Image.{instruction_bits}
@@ -15,12 +15,12 @@ returns c =
     let a = c.args in
     let code : ℕ = c.code_of-code.result in
     let width : ℕ = c.width_of-width.result in
-    let span : ℕ = 1 * 2 ^ width % 2 ^ 64 in
+    let span : ℕ = c.span_of-span.result in
     let v : ℕ = code * span + c.operand_of.result % span in
-    let narrow : width ≤ 32 = omega (arith, c.width_of-width.ensures, width_most c.kind_of.result) in
+    let narrow : width ≤ 32 = omega (arith, c.width_of-width.ensures, width_most c.kind_of-kind.result) in
     let e : field (6 + width) v ≡ instruction_bits a.place =
-    joined_bits width code c.operand_of.result {span = span} (search rules)
-    ∙ rw (c.width_of-width.ensures, c.kind_of.ensures, c.code_of-code.ensures, c.operand_of.ensures) in
+    joined_bits width code c.operand_of.result {span = span} (c.span_of-span.ensures ∙ ap (λ (w : ℕ). 2 ^ w) (sym c.width_of-width.ensures))
+    ∙ rw (c.width_of-width.ensures, c.kind_of-kind.ensures, c.code_of-code.ensures, c.operand_of.ensures) in
     record {
       bits = c.put.ensures ∙ written_inside (bits_of a.image.now) a.at (6 + width) v (omega arith) (omega (arith, bits_of_length a.image.now)) ∙ ap (splice (bits_of a.image.now) a.at) e;
       next = omega (arith, field_length (6 + width) v, ap length e);
