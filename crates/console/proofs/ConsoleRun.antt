@@ -1,6 +1,5 @@
 -- The run of the console: what it leaves, that SP stays below 1,000, and that at most 256 bytes are written. Assumes nothing.
 use Rattle.std.specs.Prelude.{Ok, Err}
-use Rattle.std.specs.Result.{result_unwrap_or}
 use Prim.Native.Nat.{ℕ, zero, suc, ◌+◌, ◌≤◌, ◌<◌}
 use mathlib.Core.Path.{◌≡◌, refl, subst}
 use mathlib.Core.Bool.{true, false}
@@ -87,10 +86,6 @@ ran_within p a m e = subst (λ (x : Ran). Within x.answer.registers) e (console_
 
 -- ---- what the reset and the run of the console leave
 
-or_zeros : (s : Begun) → result_unwrap_or s (cleared 0 0) ≡ registers_begun s
-or_zeros (Ok r) = refl
-or_zeros (Err e) = refl
-
 none_left : (l : List ℕ) → length l ≡ 0 → l ≡ []
 none_left [] e = refl
 none_left (x ∷ l) e = absurd (let y : ⊥ = omega (arith, e) in y)
@@ -101,7 +96,7 @@ module _
     (r : Registers)
     (a : Run)
     (b₁ t₁ h₁ o₁ b₂ t₂ h₂ o₂ : List ℕ)
-    (starts : r ≡ result_unwrap_or s (cleared 0 0))
+    (starts : r ≡ registers_begun s)
     (begins : started s b₁ t₁ h₁ o₁ ≡ reset p console_memory)
     (tells : a ≡ (run p console_limit r (memory b₁ t₁ h₁ o₁)).answer)
     (leaves : memory b₂ t₂ h₂ o₂ ≡ (run p console_limit r (memory b₁ t₁ h₁ o₁)).memory)
@@ -110,4 +105,4 @@ module _
   unfolding console_run
   console_ran =
       let e : memory b₂ t₂ [] o₂ ≡ (run p console_limit r (memory b₁ t₁ h₁ o₁)).memory = rw (none_left h₂ bare) at leaves in
-      rw (← begins, tells, e, starts, or_zeros)
+      rw (← begins, tells, e, starts)

@@ -62,7 +62,7 @@ pub(crate) fn put_run(out: &mut [u8], p: Program<'_>) -> usize
     let start = state::reset(p, &mut bits, &mut tags, &mut history, &mut output);
     let ran = machine::run::run(
         p,
-        start.unwrap_or(state::zero_registers(0, 0)),
+        state::registers_begun(start),
         &mut bits,
         &mut tags,
         &mut history,

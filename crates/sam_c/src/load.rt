@@ -34,6 +34,6 @@ pub extern "C" fn sam_load(
         length: length as usize,
     };
     let answer = saved::load(image, p, bits, tags, history, output);
-    registers::write(registers, answer.unwrap_or(state::zero_registers(0, 0)));
+    registers::write(registers, saved::registers_resumed(answer));
     answer.number()
 }

@@ -31,6 +31,6 @@ pub extern "C" fn sam_reset(
         length: length as usize,
     };
     let answer = state::reset(p, bits, tags, history, output);
-    registers::write(registers, answer.unwrap_or(state::zero_registers(0, 0)));
+    registers::write(registers, state::registers_begun(answer));
     answer.number()
 }

@@ -15,7 +15,7 @@ ghost use Rattle.std.specs.Prelude.{◌≡◌, ◌≤◌, MatchResult, Ok, Err, 
 ghost use Rattle.rules.specs.Lists.{every};
 ghost use Rattle.rules.specs.Fields.{bits_of};
 ghost use Rattle.rules.specs.State.{memory};
-ghost use Rattle.rules.specs.SavedState.{registers_in, lent_sizes, not_loaded, loaded, entry, save, load};
+ghost use Rattle.rules.specs.SavedState.{registers_in, lent_sizes, not_loaded, loaded, registers_resumed, entry, save, load};
 ghost use Rattle.program.specs.Lent.{program_of};
 ghost use Rattle.saved.specs.Outcomes.{saving, loading};
 
@@ -113,4 +113,11 @@ pub fn load(
     history.fill(0);
     saved.read_output(output);
     Ok(saved.registers)
+}
+
+// The registers after a load: those that it answers, and zero registers of one that is refused.
+pub fn registers_resumed(resumed: Result<Registers, LoadRefusal>) -> Registers
+    ensures { result ≡ registers_resumed resumed }
+{
+    resumed.unwrap_or(state::zero_registers(0, 0))
 }

@@ -4,7 +4,7 @@
 ghost use Rattle.std.specs.Prelude.{◌≡◌, length, replicate};
 ghost use Rattle.rules.specs.Lists.{every};
 ghost use Rattle.rules.specs.State.{memory, sound_cell, sound_cells, kept_sizes, kept_within, output_within, registers_within, range_tests, sound};
-ghost use Rattle.rules.specs.Reset.{cleared, start_sizes, reset};
+ghost use Rattle.rules.specs.Reset.{cleared, registers_begun, start_sizes, reset};
 ghost use Rattle.program.specs.Lent.{program_of};
 ghost use Rattle.state.specs.Lent.{lengths};
 ghost use Rattle.state.specs.Outcomes.{started};
@@ -157,6 +157,13 @@ pub fn zero_registers(n: usize, h: usize) -> Registers
         kept: 0,
         written: 0,
     }
+}
+
+// The registers after a reset: those that it answers, and zero registers of one that is refused.
+pub fn registers_begun(begun: Result<Registers, MachineRefusal>) -> Registers
+    ensures { result ≡ registers_begun begun }
+{
+    begun.unwrap_or(zero_registers(0, 0))
 }
 
 // Sets cells to INT 0, and all history places and bytes of the output to 0, and answers the registers to start with; or refuses and changes nothing.

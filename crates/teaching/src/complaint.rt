@@ -37,7 +37,7 @@ impl<'a> Trial<'a> {
         let begun = state::reset(p, &mut bits, &mut tags, &mut history, &mut output);
         Trial {
             program: p,
-            registers: begun.unwrap_or(state::zero_registers(0, 0)),
+            registers: state::registers_begun(begun),
             bits,
             tags,
             history,

@@ -15,10 +15,10 @@ console_ran : (c : After-run-ran)
 console_ran c =
     let reset = c.reset-start in
     let run = c.run-ran in
-    law.console_ran (program_of c.args.p) reset.result c.unwrap_or.result run.result
+    law.console_ran (program_of c.args.p) reset.result c.registers_begun.result run.result
     reset.new.bits reset.new.tags reset.new.history reset.new.output
     run.new.bits run.new.tags run.new.history run.new.output
-    (rw c.zero_registers.ensures at c.unwrap_or.ensures)
+    c.registers_begun.ensures
     reset.ensures run.ensures.value run.ensures.output_after (omega (arith, run.auto, reset.auto))
 
 pub put_report-requires : goal.put_report-requires
