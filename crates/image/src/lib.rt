@@ -35,7 +35,6 @@ pub fn unpack(image: &[u8], table: &mut [u64]) -> Result<usize, ImageRefusal>
     if table.len() != sizes::MAX_PROGRAM {
         return Err(ImageRefusal::OutputLength);
     }
-    table.fill(0);
     let answer = reading::read_image(image, table);
     if answer.is_err() {
         table.fill(0);

@@ -56,9 +56,9 @@ fn take_instruction(image: &[u8], at: usize, count: usize) -> Result<Taken, Imag
     take_operand(image, at + CODE_WIDTH, count, code)
 }
 
-// Unpacks into a table of zeros, which a refusal leaves part filled.
+// Unpacks into a table: its places, then zeros. What a refusal leaves is not told.
 pub(crate) fn read_image(image: &[u8], table: &mut [u64]) -> Result<usize, ImageRefusal>
-    requires { table.old ≡ replicate max_program 0 }
+    requires { length table.old ≡ max_program }
     ensures answer { result ≡ (filed table.old (unpacked image.now)).answer }
     ensures output { OnOk result (table.new ≡ (filed table.old (unpacked image.now)).output) }
 {
@@ -66,6 +66,7 @@ pub(crate) fn read_image(image: &[u8], table: &mut [u64]) -> Result<usize, Image
     if sizes::MAX_PROGRAM < count {
         return Err(ImageRefusal::CountTooHigh);
     }
+    table.fill(0);
     let mut at = COUNT_WIDTH;
     for place in &mut table[..count] {
         let taken = take_instruction(image, at, count)?;

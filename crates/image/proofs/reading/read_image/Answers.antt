@@ -50,7 +50,7 @@ loop-place-init c =
     let n : ℕ = c.in_ok-count.count in
     let h = c.in_ok-count.ensures.told in record {
       near = omega arith;
-      all = length-take-le n a.table.now (omega (arith, ap length c.requires, length-replicate {A = ℕ} max_program 0));
+      all = length-take-le n c.fill.new.self (omega (arith, c.fill.ensures.len, c.requires));
       left = unpacked_from a.image.now n h.0 h.1 c.if-count-gt-MAX_PROGRAM.false
           ∙ sym (prepend_none _) ∙ ap (λ (m : ℕ). prepend [] (unpack_from n m (drop 11 (bits_of a.image.now)))) (sym (sub-zero n));
     }
@@ -93,11 +93,12 @@ returns c =
     let t = c.loop-place in
     let n : ℕ = c.in_ok-count.count in
     let ps : List ℕ = t.place-items in
-    let rest : List ℕ = drop n a.table.now in
+    let blank : c.fill.new.self ≡ replicate max_program 0 = c.fill.ensures.after (λ y e. e) ∙ rw c.requires in
+    let rest : List ℕ = drop n c.fill.new.self in
     let long : length (ps ++ rest) ≡ max_program =
-    omega (arith, length-append ps rest, length-drop n a.table.now, ap length c.requires, length-replicate {A = ℕ} max_program 0) in
+    omega (arith, length-append ps rest, length-drop n c.fill.new.self, ap length blank, length-replicate {A = ℕ} max_program 0) in
     let zeros : drop n (ps ++ rest) ≡ replicate (max_program - n) 0 =
-    drop-append-drop n a.table.now ps n (omega arith) t.invariant.all ∙ ap (drop n) c.requires ∙ drop-replicate n max_program 0 in
+    drop-append-drop n c.fill.new.self ps n (omega arith) t.invariant.all ∙ ap (drop n) blank ∙ drop-replicate n max_program 0 in
     let within : t.place-index ≤ length ps = omega arith in
     let e = read_all a.image.now (ps ++ rest) n t.place-index t.at (omega arith) (rw take-append-le t.invariant.left) in
     let r = end_filed a.image.now (ps ++ rest) n t.at e a.table.now (sym c.is_padded.ensures ∙ c.if-not-is_padded.false) c.if-count-gt-MAX_PROGRAM.false long zeros in
