@@ -1,13 +1,14 @@
 -- An instruction in an image: as one number, and no longer than the longest. Assumes nothing.
 use Rattle.std.specs.Prelude.{Ok, Err}
-use Prim.Native.Nat.{ℕ, ◌+◌, ◌*◌, ◌%◌, ◌^◌, ◌≤◌}
+use Prim.Native.Nat.{ℕ, ◌+◌, ◌*◌, ◌%◌, ◌^◌, ◌≤◌, ◌<◌}
 use mathlib.Core.Path.{◌≡◌, ap, ◌∙◌}
 use mathlib.Core.List.{List, ◌++◌}
-use native.Mathlib.Nat.{mod-lt}
+use native.Mathlib.Nat.{mod-lt, lt_of_lt_of_le}
 use native.Mathlib.Omega.{arith}
+use lib.Arith.{digits_lt}
 use lib.Dec.{leb, ltb}
 use lib.ListN.{length, take, drop}
-use lib.Pow.{pow_pos}
+use lib.Pow.{pow_pos, pow-add, pow_mono}
 use Rattle.rules.specs.Fields.{field, value}
 use Rattle.rules.specs.Instructions.{codes, kind_of}
 use Rattle.rules.specs.Table.{code_of, within}
@@ -28,6 +29,11 @@ module _ (w code operand : ℕ) {span : ℕ} (es : span ≡ 2 ^ w) where
   joined_bits =
       rw es
       (field_join code_width w code (operand % 2 ^ w) (mod-lt operand (pow_pos w)) ∙ ap (λ (l : List ℕ). field code_width code ++ l) (field_mod w operand))
+
+  pub joined_fits : code < 2 ^ 32 → w ≤ 32 → code * span + operand % span < 2 ^ 64
+  joined_fits hc hw =
+      let m : code * span + operand % span < 2 ^ (32 + w) = rw (es, pow-add 2 32 w) (digits_lt hc (mod-lt operand (pow_pos w))) in
+      lt_of_lt_of_le m (pow_mono {j = 64} (omega arith))
 
 -- ---- no longer than the longest, written or read
 

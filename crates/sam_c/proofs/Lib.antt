@@ -1,0 +1,2 @@
+-- What a caller wants beside the clauses of the calls.
+pub mod Lent
