@@ -1,4 +1,4 @@
--- Texts written after texts, a byte before and a byte after, and a text over zeros. Assumes nothing.
+-- Texts written after texts, a byte before and a byte after, a text over zeros, and hex zeros past the end. Assumes nothing.
 use Prim.Native.Nat.{ℕ, zero, suc, ◌+◌, ◌-◌, ◌≤◌, ◌<◌}
 use mathlib.Core.Path.{◌≡◌, refl, sym, ap, ◌∙◌}
 use mathlib.Core.List.{List, [], ◌∷◌, ◌++◌}
@@ -55,7 +55,7 @@ put_zeros {n} {r} {new} {t} h p =
     ∙ sets_splice t (replicate n 0) 0 (rw (zero-add, length-replicate) h)
     ∙ ap (λ (l : List ℕ). t ++ l) (rw zero-add (drop_zeros (length t) n))
 
--- one hex zero more, and as many as the lent bytes have room for
+-- one hex zero more; and those past the end of the lent bytes are left out
 pub hex_zero_more : (l : List ℕ) (at k : ℕ) → set (sets l at (hex k 0)) (at + k) 48 ≡ sets l at (hex (k + 1) 0)
 unfolding hex hex_byte
 hex_zero_more l at k =
